@@ -1,0 +1,56 @@
+-- Laws of refusal numbers and of the first check that applies.
+use Prim.Native.Nat.{ℕ, _<_}
+use mathlib.Core.Path.{_≡_, refl, ap, sym, _∙_}
+use mathlib.Core.Bool.{Bool, true, false, cond}
+use mathlib.Core.List.{List, _∷_}
+use native.Mathlib.Omega.{arith}
+use lib.Dec.{eqb, lit<}
+use Rattle.refusals.specs.Number.{numberOf}
+use Rattle.refusals.specs.First.{Check, accepted, refused, first}
+use Rattle.refusals.specs.declared.Refusal.{Refusal}
+use Rattle.refusals.specs.declared.Refusal.the-variants.{TooMuch, NotGroups, StartState, Room, ControlByte, Cut, LongBody, RecordKind}
+
+-- No two refusals have one number: the number tells the refusal.
+refusalOf : ℕ → Refusal
+refusalOf n =
+    cond (eqb n 1) TooMuch
+    (cond (eqb n 2) NotGroups
+    (cond (eqb n 3) StartState
+    (cond (eqb n 4) Room
+    (cond (eqb n 5) ControlByte
+    (cond (eqb n 6) Cut
+    (cond (eqb n 7) LongBody RecordKind))))))
+
+back : (r : Refusal) → refusalOf (numberOf r) ≡ r
+unfolding refusalOf
+back TooMuch = refl
+back NotGroups = refl
+back StartState = refl
+back Room = refl
+back ControlByte = refl
+back Cut = refl
+back LongBody = refl
+back RecordKind = refl
+
+pub number-injective : (a b : Refusal) → numberOf a ≡ numberOf b → a ≡ b
+number-injective a b e = sym (back a) ∙ ap refusalOf e ∙ back b
+
+-- 0 is the number of no refusal.
+pub number-positive : (r : Refusal) → 0 < numberOf r
+number-positive TooMuch = lit< tt
+number-positive NotGroups = lit< tt
+number-positive StartState = lit< tt
+number-positive Room = lit< tt
+number-positive ControlByte = lit< tt
+number-positive Cut = lit< tt
+number-positive LongBody = lit< tt
+number-positive RecordKind = lit< tt
+
+-- Of an accepted list no row applies.
+pub passed : (c : Check) (cs : List Check) → first (c ∷ cs) ≡ accepted → (c .applies ≡ false) × (first cs ≡ accepted)
+unfolding first
+passed c cs e = go (c .applies) refl e
+  where
+    go : (b : Bool) → c .applies ≡ b → cond b (refused (c .number) (c .place)) (first cs) ≡ accepted → (c .applies ≡ false) × (first cs ≡ accepted)
+    go true h q = absurd (let z : _≡_ {A = ℕ} 0 1 = cc in omega arith)
+    go false h q = (h, q)

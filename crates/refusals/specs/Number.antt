@@ -1,0 +1,14 @@
+-- Document 01, 'Refusal numbers': the number of each refusal.
+use Prim.Native.Nat.{ℕ}
+use Rattle.refusals.specs.declared.Refusal.{Refusal}
+use Rattle.refusals.specs.declared.Refusal.the-variants.{TooMuch, NotGroups, StartState, Room, ControlByte, Cut, LongBody, RecordKind}
+
+abbrev pub numberOf : Refusal → ℕ
+numberOf TooMuch = 1
+numberOf NotGroups = 2
+numberOf StartState = 3
+numberOf Room = 4
+numberOf ControlByte = 5
+numberOf Cut = 6
+numberOf LongBody = 7
+numberOf RecordKind = 8

@@ -1,0 +1,4 @@
+pub mod Laws
+pub mod Unique
+mod Checks
+mod Words

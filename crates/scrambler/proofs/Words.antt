@@ -1,0 +1,66 @@
+-- 64 line bits descrambled at once, by operations on words. Assumes nothing.
+use mathlib.Core.Path.{_≡_, refl, sym, ap, _∙_}
+use Prim.Native.Nat.{ℕ, _+_, _-_, _*_, _/_, _%_, _^_, _≤_, _<_}
+use native.Mathlib.Nat.{add-zero, add-comm, mod-lt, div-one}
+use native.Mathlib.Omega.{arith}
+use lib.Bits.{bitXor, xor-lt}
+use lib.Pow.{pow-pos}
+use Rattle.bits.specs.Bits.{bit}
+use Rattle.bits.proofs.Laws.{bit-lt, by-lt, bit-shr, bit-high, shifted-low, shifted-high, bit-sum, xor-sum, is-number, same-bits}
+use Rattle.register.specs.Register.{pushes, got, whole}
+use Rattle.register.proofs.Laws.{whole-low, whole-high, past, pushes-lt, got-at}
+use Rattle.scrambler.specs.Scrambler.{descrambled, lineAfter}
+
+module _ (h : ℕ) (hb : h < 2 ^ 58) where
+  -- 64 bits of the stream from place s on, as words: the history shifted right, and the line shifted left, of which v has what is needed
+  pub window : (y : ℕ → ℕ) (v s n : ℕ) → s ≤ 58 → n < 64 → ((i : ℕ) → i + 58 < 64 + s → y i ≡ bit v i)
+      → whole 57 h y (n + s) ≡ bit (h / 2 ^ s) n + bit (v * 2 ^ (58 - s) % 2 ^ 64) n
+  window y v s n sl nl e =
+      by-lt n (58 - s)
+      (λ m.
+      let a : whole 57 h y (n + s) ≡ bit (h / 2 ^ s) n =
+      whole-low 57 h y (n + s) (omega arith) ∙ ap (bit h) (add-comm n s) ∙ sym (bit-shr h s n) in
+      omega (arith, a, shifted-low v (58 - s) n nl m))
+      (λ m.
+      let a : whole 57 h y (n + s) ≡ bit v (n - (58 - s)) =
+      whole-high 57 h y (n + s) (n - (58 - s)) (omega arith) ∙ e (n - (58 - s)) (omega arith) in
+      let b : bit (h / 2 ^ s) n ≡ 0 = bit-shr h s n ∙ bit-high h 58 (s + n) hb (omega arith) in
+      omega (arith, a, b, shifted-high v (58 - s) n nl m))
+
+  -- the history after a word is its highest 58 bits
+  pub top : (w : ℕ) (y : ℕ → ℕ) → ((n : ℕ) → y n < 2) → w < 2 ^ 64 → ((i : ℕ) → i < 64 → bit w i ≡ y i) → w / 2 ^ 6 ≡ pushes 57 y h 64
+  top w y yb wb e =
+      same-bits 58 (w / 2 ^ 6) (pushes 57 y h 64) (omega arith) (pushes-lt 57 y yb h hb 64)
+      (λ j l. bit-shr w 6 j ∙ e (6 + j) (omega arith) ∙ sym (past 57 y yb h hb 64 j (omega arith) ∙ whole-high 57 h y (64 + j) (6 + j) (omega arith)))
+
+  module _ (w : ℕ) (wb : w < 2 ^ 64) where
+    -- the payload, as it is worked out
+    abbrev pub unmixed : ℕ
+    unmixed = bitXor (bitXor (bitXor (bitXor w (h / 2 ^ 19)) (w * 2 ^ 39 % 2 ^ 64)) h) (w * 2 ^ 58 % 2 ^ 64)
+
+    unmixed-lt : unmixed < 2 ^ 64
+    unmixed-lt =
+        xor-lt 64 _ _
+        (xor-lt 64 _ h (xor-lt 64 _ _ (xor-lt 64 w (h / 2 ^ 19) wb (omega arith)) (mod-lt (w * 2 ^ 39) (pow-pos 64))) (omega arith))
+        (mod-lt (w * 2 ^ 58) (pow-pos 64))
+
+    unmixed-at : (n : ℕ) → n < 64 → bit unmixed n ≡ got 57 39 (bit w) h n
+    unmixed-at n l =
+        let a : whole 57 h (bit w) (n + 19) ≡ bit (h / 2 ^ 19) n + bit (w * 2 ^ 39 % 2 ^ 64) n = window (bit w) w 19 n (omega arith) l (λ i m. refl) in
+        let b : whole 57 h (bit w) n ≡ bit (h / 2 ^ 0) n + bit (w * 2 ^ 58 % 2 ^ 64) n = ap (whole 57 h (bit w)) (sym (add-zero n)) ∙ window (bit w) w 0 n (omega arith) l (λ i m. refl) in
+        let s : bit unmixed n ≡ (bit w n + bit (h / 2 ^ 19) n + bit (w * 2 ^ 39 % 2 ^ 64) n + bit h n + bit (w * 2 ^ 58 % 2 ^ 64) n) % 2 =
+        xor-sum _ _ n _ _ (xor-sum _ h n _ _ (xor-sum _ _ n _ _ (xor-sum w _ n _ _ (bit-sum w n) (bit-sum _ n)) (bit-sum _ n)) (bit-sum h n)) (bit-sum _ n) in
+        let t : bit w n + bit (h / 2 ^ 19) n + bit (w * 2 ^ 39 % 2 ^ 64) n + bit h n + bit (w * 2 ^ 58 % 2 ^ 64) n
+        ≡ bit w n + whole 57 h (bit w) (n + 19) + whole 57 h (bit w) n =
+        omega (arith, a, b, ap (λ (x : ℕ). bit x n) (div-one h)) in
+        s ∙ ap (λ (x : ℕ). x % 2) t ∙ sym (got-at 57 (bit w) (bit-lt w) h hb 39 n (omega arith))
+
+    -- it is the one that is defined
+    pub descramble-word : unmixed ≡ descrambled w h
+    unfolding descrambled
+    descramble-word = is-number 64 unmixed (got 57 39 (bit w) h) unmixed-lt unmixed-at
+
+    -- .. and so is the history
+    pub descramble-history : w / 2 ^ 6 ≡ lineAfter w h
+    unfolding lineAfter
+    descramble-history = top w (bit w) (bit-lt w) wb (λ i l. refl)
