@@ -1,0 +1,6 @@
+pub mod Tests
+pub mod Formats
+pub mod Reading
+pub mod Sending
+pub mod Near
+pub mod High

@@ -1,0 +1,53 @@
+-- `decoding::decode` meets its contract: data, eight idles, the row of the type, or kind E.
+use Prim.Native.Nat.{_%_}
+use native.Mathlib.Omega.{arith}
+use borrow.Author.Needs.{needs}
+use Rattle.tables.proofs.Entries.{type-at}
+use Rattle.decoding.proofs.Rows.{data-answer, idle-answer, row-answer, no-type, no-header, row-le}
+use Rattle.decoding.proofs.decode.Statement.{statement}
+use Rattle.decoding.proofs.decode.Tie as tie
+
+cast-t9 : tie.Need-cast-t9
+cast-t9 c = search needs
+
+cast-t11 : tie.Need-cast-t11
+cast-t11 c = search needs
+
+returns : tie.Need-returns
+returns c = data-answer (c .before .args .header) (c .before .args .payload) (c .if1 .taken)
+
+returns-2 : tie.Need-returns-2
+returns-2 c = idle-answer (c .before .before .before .args .header) (c .before .before .before .args .payload) (c .before .if2 .taken) (c .if3 .taken)
+
+element-copy-out-r : tie.Need-element-copy-out-r
+element-copy-out-r c = search needs
+
+cast-r : tie.Need-cast-r
+cast-r c = omega (arith, type-at (c .before .before .before .before .args .y .now) (c .before .before .before .before .pre .1) (c .before .before .before .before .args .payload % 256) (omega arith), row-le (c .before .before .before .before .args .payload % 256))
+
+decode-row-requires : tie.Need-decode-row-requires
+decode-row-requires c κs = search needs
+
+returns-3 : tie.Need-returns-3
+returns-3 c = row-answer (c .before .before .before .before .before .before .args .header) (c .before .before .before .before .before .before .args .payload) _ _ _ (c .before .before .before .before .if2 .taken) (type-at (c .before .before .before .before .before .before .args .y .now) (c .before .before .before .before .before .before .pre .1) (c .before .before .before .before .before .before .args .payload % 256) (omega arith)) (c .decode-row .ensures)
+
+returns-4 : tie.Need-returns-4
+returns-4 c = no-type (c .before .before .before .before .before .args .header) (c .before .before .before .before .before .args .payload) _ (c .before .before .before .if2 .taken) (type-at (c .before .before .before .before .before .args .y .now) (c .before .before .before .before .before .pre .1) (c .before .before .before .before .before .args .payload % 256) (omega arith)) (c .if4 .left)
+
+returns-5 : tie.Need-returns-5
+returns-5 c = no-header (c .before .before .args .header) (c .before .before .args .payload) (c .before .if1 .left) (c .if2 .left)
+
+pub decode-spec : {M : Type 1} → statement M
+decode-spec =
+    tie.close
+    (tie.spec
+    cast-t9
+    cast-t11
+    returns
+    returns-2
+    element-copy-out-r
+    cast-r
+    decode-row-requires
+    returns-3
+    returns-4
+    returns-5)

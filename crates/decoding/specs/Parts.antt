@@ -1,0 +1,15 @@
+-- A reviewer can skip this file: what the private functions answer.
+use Prim.Native.Nat.{ℕ, _+_, _*_, _/_, _%_, _^_}
+use Rattle.block.specs.Block.{octetAt}
+use Rattle.block.specs.Rows.{row}
+
+-- the octet of character p of a block of row r, not below 256 where its bits are not valid
+abbrev pub octetBy : ℕ → ℕ → ℕ → ℕ
+octetBy r x p = octetAt (row r .fields) (x / 2 ^ row r .lead) p
+
+-- four octets as lanes, and how much of them does not fit a byte
+abbrev pub lanesBy : ℕ → ℕ → ℕ → ℕ → ℕ
+lanesBy a b c d = a % 256 + b % 256 * 256 + c % 256 * 65536 + d % 256 * 16777216
+
+abbrev pub overBy : ℕ → ℕ → ℕ → ℕ → ℕ
+overBy a b c d = a / 256 + b / 256 + c / 256 + d / 256

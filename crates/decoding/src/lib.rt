@@ -1,0 +1,175 @@
+// One received block: its kind and its vector.
+ghost use mathlib.Core.Path.{_≡_};
+ghost use mathlib.Core.List.{List};
+ghost use Prim.Native.Nat.{_+_, _<_, _≤_};
+ghost use Rattle.block.specs.Block.{kindOf, decoded, kindBy, decodedBy};
+ghost use Rattle.block.specs.Rows.{row};
+ghost use Rattle.tables.specs.Tables.{types, tables};
+ghost use Rattle.decoding.specs.Vector.{vectorBytes};
+ghost use Rattle.decoding.specs.Parts.{octetBy, lanesBy, overBy};
+use block::Kind;
+
+// A vector: two words, each a control byte and four lanes, lane 0 lowest.
+pub struct Vector {
+    pub c0: u8,
+    pub d0: u32,
+    pub c1: u8,
+    pub d1: u32,
+}
+
+// What a block decodes to: its kind, and its vector, the error vector for kind E.
+pub struct Decoded {
+    pub kind: Kind,
+    pub vector: Vector,
+}
+
+// Four characters: their octets as lanes, and what of them does not fit a byte, 0 where all are valid.
+struct Half {
+    lanes: u32,
+    over: u16,
+}
+
+// The octet of character p of a block of row r, not below 256 where its bits are not valid.
+fn character(t: &[u16; 3170], r: usize, p: usize, x: u64) -> u16
+    requires { ⌜ (r < 16) × (p < 8) × (now t ≡ tables) ⌝ }
+    ensures { λ z. ⌜ z ≡ octetBy r x p ⌝ }
+{
+    let k = 8 * r + p;
+    let shift = t[tables::SHIFT + k];
+    let mask = t[tables::MASK + k];
+    let base = t[tables::BASE + k];
+    let v = (x >> shift) & (mask as u64);
+    t[base as usize + v as usize]
+}
+
+// Four characters from p on.
+fn four(t: &[u16; 3170], r: usize, p: usize, x: u64) -> Half
+    requires { ⌜ (r < 16) × (p + 3 < 8) × (now t ≡ tables) ⌝ }
+    ensures { λ z. ⌜ (z .lanes ≡ lanesBy (octetBy r x p) (octetBy r x (p + 1)) (octetBy r x (p + 2)) (octetBy r x (p + 3))) × (z .over ≡ overBy (octetBy r x p) (octetBy r x (p + 1)) (octetBy r x (p + 2)) (octetBy r x (p + 3))) × (z .over < 1024) ⌝ }
+{
+    let a = character(t, r, p, x);
+    let b = character(t, r, p + 1, x);
+    let c = character(t, r, p + 2, x);
+    let d = character(t, r, p + 3, x);
+    Half {
+        lanes: (a % 256) as u32
+            + (b % 256) as u32 * 256
+            + (c % 256) as u32 * 65536
+            + (d % 256) as u32 * 16777216,
+        over: a / 256 + b / 256 + c / 256 + d / 256,
+    }
+}
+
+// A block of row r.
+fn decode_row(t: &[u16; 3170], r: usize, x: u64) -> Decoded
+    requires { ⌜ (r < 16) × (now t ≡ tables) ⌝ }
+    ensures { λ z. ⌜ (z .kind ≡ kindBy (row r) x) × (vectorBytes (z .vector) ≡ decodedBy (row r) x) ⌝ }
+{
+    let a = four(t, r, 0, x);
+    let b = four(t, r, 4, x);
+    if a.over + b.over == 0 {
+        let c0 = (t[tables::LOW + r] % 256) as u8;
+        let c1 = (t[tables::HIGH + r] % 256) as u8;
+        return Decoded {
+            kind: tables::kind_at(t, r),
+            vector: Vector {
+                c0: c0,
+                d0: a.lanes,
+                c1: c1,
+                d1: b.lanes,
+            },
+        };
+    }
+    Decoded {
+        kind: Kind::E,
+        vector: Vector {
+            c0: 15,
+            d0: 0xfefefefe,
+            c1: 15,
+            d1: 0xfefefefe,
+        },
+    }
+}
+
+// A block with this header (its two bits as a number, block bit 0 the lower) and payload. The tables are those of the crate tables.
+pub fn decode(t: &[u16; 3170], y: &[u8; 256], header: u64, payload: u64) -> Decoded
+    requires { ⌜ (now t ≡ tables) × (now y ≡ types) ⌝ }
+    ensures { λ r. ⌜ (r .kind ≡ kindOf header payload) × (vectorBytes (r .vector) ≡ decoded header payload) ⌝ }
+{
+    if header == 2 {
+        return Decoded {
+            kind: Kind::D,
+            vector: Vector {
+                c0: 0,
+                d0: (payload % 4294967296) as u32,
+                c1: 0,
+                d1: (payload / 4294967296) as u32,
+            },
+        };
+    }
+    if header == 1 {
+        // eight idles
+        if payload == 0x1e {
+            return Decoded {
+                kind: Kind::C,
+                vector: Vector {
+                    c0: 15,
+                    d0: 0x07070707,
+                    c1: 15,
+                    d1: 0x07070707,
+                },
+            };
+        }
+        let r = y[(payload % 256) as usize] as usize;
+        if r < 16 {
+            return decode_row(t, r, payload);
+        }
+    }
+    Decoded {
+        kind: Kind::E,
+        vector: Vector {
+            c0: 15,
+            d0: 0xfefefefe,
+            c1: 15,
+            d1: 0xfefefefe,
+        },
+    }
+}
+
+// The ten bytes of a vector.
+pub fn bytes_of(v: Vector) -> [u8; 10]
+    ensures { λ r. ⌜ r ≡ vectorBytes v ⌝ }
+{
+    [
+        v.c0,
+        (v.d0 % 256) as u8,
+        (v.d0 / 256 % 256) as u8,
+        (v.d0 / 65536 % 256) as u8,
+        (v.d0 / 16777216 % 256) as u8,
+        v.c1,
+        (v.d1 % 256) as u8,
+        (v.d1 / 256 % 256) as u8,
+        (v.d1 / 65536 % 256) as u8,
+        (v.d1 / 16777216 % 256) as u8,
+    ]
+}
+
+// The kind of a block; its vector, the error vector for kind E, goes into out.
+pub fn decode_block(header: u8, payload: u64, out: &mut [u8; 10]) -> Kind
+    ensures { λ k. ⌜ (k ≡ kindOf header payload) × (now (out .exit) ≡ decoded header payload) ⌝ }
+{
+    let t = tables::block_tables();
+    let y = tables::type_table();
+    let d = decode(&t, &y, header as u64, payload);
+    let v = d.vector;
+    *out = bytes_of(v);
+    d.kind
+}
+
+// The kind of a block.
+pub fn classify(header: u8, payload: u64) -> Kind
+    ensures { λ k. ⌜ k ≡ kindOf header payload ⌝ }
+{
+    let mut out = [0u8; 10];
+    decode_block(header, payload, &mut out)
+}

@@ -1,0 +1,52 @@
+-- `encoding::answer` meets its contract, kind by kind.
+use mathlib.Core.Path.{ap, sym}
+use borrow.Author.Needs.{needs}
+use Rattle.block.specs.declared.Kind.{Kind}
+use Rattle.encoding.specs.Parts.{encodedBy}
+use Rattle.encoding.proofs.answer.Statement.{statement}
+use Rattle.encoding.proofs.answer.Tie as tie
+
+enum-told : tie.Need-enum-told
+enum-told c = search needs
+
+enum-told-2 : tie.Need-enum-told-2
+enum-told-2 c = search needs
+
+enum-told-3 : tie.Need-enum-told-3
+enum-told-3 c = search needs
+
+enum-told-4 : tie.Need-enum-told-4
+enum-told-4 c = search needs
+
+enum-told-5 : tie.Need-enum-told-5
+enum-told-5 c = search needs
+
+returns : tie.Need-returns
+returns c = sym (ap (λ (k : Kind). encodedBy k (c .before .before .args .c)) (c .enum-told .given .1))
+
+returns-2 : tie.Need-returns-2
+returns-2 c = sym (ap (λ (k : Kind). encodedBy k (c .before .before .args .c)) (c .enum-told2 .given .1))
+
+returns-3 : tie.Need-returns-3
+returns-3 c = sym (ap (λ (k : Kind). encodedBy k (c .before .before .args .c)) (c .enum-told3 .given .1))
+
+returns-4 : tie.Need-returns-4
+returns-4 c = sym (ap (λ (k : Kind). encodedBy k (c .before .before .args .c)) (c .enum-told4 .given .1))
+
+returns-5 : tie.Need-returns-5
+returns-5 c = search needs
+
+pub answer-spec : {M : Type 1} → statement M
+answer-spec =
+    tie.close
+    (tie.spec
+    enum-told
+    enum-told-2
+    enum-told-3
+    enum-told-4
+    enum-told-5
+    returns
+    returns-2
+    returns-3
+    returns-4
+    returns-5)

@@ -1,0 +1,1 @@
+// The marked examples of document 01: laws only.

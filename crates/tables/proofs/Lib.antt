@@ -1,0 +1,3 @@
+pub mod Entries
+pub mod Types
+pub mod Unique

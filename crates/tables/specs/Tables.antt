@@ -1,0 +1,124 @@
+-- A reviewer can skip this file: the constant tables of the code, by their rules. That they are right is shown by what decoding and
+-- encoding answer.
+use mathlib.Core.List.{List, [], _∷_, _++_, map}
+use mathlib.Core.Bool.{cond}
+use Prim.Native.Nat.{ℕ, zero, suc, _+_, _-_, _*_, _/_, _%_, _^_}
+use lib.Dec.{eqb}
+use lib.ListN.{getD, take, drop}
+use Rattle.block.specs.declared.Kind.{Kind}
+use Rattle.block.specs.declared.Kind.the-variants.{D, C, S, T, E}
+use Rattle.block.specs.Block.{Slot, Control, Calm, Data, Set, Start, Terminate, Field, d, Format, codeOf, octetOf, flagsAt}
+use Rattle.block.specs.Rows.{width, fieldAt, placeAt, bitsOf, formats, row, rowOf}
+
+-- the numbers from i on, n of them
+abbrev pub upto : ℕ → ℕ → List ℕ
+upto i zero = []
+upto i (suc n) = i ∷ upto (suc i) n
+
+-- the row of each type byte, 16 for a byte that is no type
+unfoldable pub types : List ℕ
+types = map rowOf (upto 0 256)
+
+-- the kinds by number
+abbrev pub kindNumber : Kind → ℕ
+kindNumber D = 0
+kindNumber C = 1
+kindNumber S = 2
+kindNumber T = 3
+kindNumber E = 4
+
+-- ---- for a character p of a row: table entry 8 * row + p
+
+abbrev pub fieldBy : ℕ → Field
+fieldBy k = fieldAt (row (k / 8) .fields) (k % 8)
+
+-- the place of its field in the payload; of a Terminate that is the last, 0
+abbrev pub shiftBy : ℕ → ℕ
+shiftBy k = (row (k / 8) .lead + placeAt (row (k / 8) .fields) (k % 8)) % 64
+
+abbrev pub maskBy : ℕ → ℕ
+maskBy k = 2 ^ width (fieldBy k .slot) - 1
+
+-- where the octets of a slot begin
+abbrev pub octetsFrom : Slot → ℕ
+octetsFrom Data = 0
+octetsFrom Control = 256
+octetsFrom Calm = 384
+octetsFrom Set = 512
+octetsFrom Start = 528
+octetsFrom Terminate = 529
+
+abbrev pub baseBy : ℕ → ℕ
+baseBy k = octetsFrom (fieldBy k .slot)
+
+-- ---- for field n of a row, in the order of the payload: table entry 8 * row + n
+
+abbrev pub fieldIn : ℕ → ℕ → Field
+fieldIn r n = getD (row r .fields) n (d 0)
+
+-- the lane of its character among eight octets, where the codes of its slot begin, and its place
+abbrev pub laneBy : ℕ → ℕ
+laneBy k = 8 * fieldIn (k / 8) (k % 8) .char
+
+abbrev pub codesFrom : Slot → ℕ
+codesFrom Data = 0
+codesFrom Control = 256
+codesFrom Calm = 512
+codesFrom Set = 768
+codesFrom Start = 1024
+codesFrom Terminate = 1280
+
+abbrev pub fromBy : ℕ → ℕ
+fromBy k = codesFrom (fieldIn (k / 8) (k % 8) .slot)
+
+abbrev pub placeIn : ℕ → ℕ → ℕ
+placeIn r n = row r .lead + bitsOf (take n (row r .fields))
+
+abbrev pub atBy : ℕ → ℕ
+atBy k = placeIn (k / 8) (k % 8) % 64
+
+-- ---- the rows that can carry a vector: those with its control bits
+
+abbrev pub flagsOf : Format → ℕ
+flagsOf f = flagsAt (f .fields) 0 + 16 * flagsAt (f .fields) 4
+
+-- the first format of a list with these control bits, or its length
+abbrev pub seek : ℕ → List Format → ℕ
+seek m [] = 0
+seek m (f ∷ fs) = cond (eqb (flagsOf f) m) 0 (suc (seek m fs))
+
+abbrev pub firstBy : ℕ → ℕ
+firstBy m = seek m formats
+
+-- the next row with the control bits of row r
+abbrev pub nextBy : ℕ → ℕ
+nextBy r = suc r + seek (flagsOf (row r)) (drop (suc r) formats)
+
+-- ---- the tables, one after the other
+
+unfoldable pub tables : List ℕ
+tables =
+    map (octetOf Data) (upto 0 256)
+    ++ map (octetOf Control) (upto 0 128)
+    ++ map (octetOf Calm) (upto 0 128)
+    ++ map (octetOf Set) (upto 0 16)
+    ++ map (octetOf Start) (upto 0 1)
+    ++ map (octetOf Terminate) (upto 0 1)
+    ++ map shiftBy (upto 0 128)
+    ++ map maskBy (upto 0 128)
+    ++ map baseBy (upto 0 128)
+    ++ map (λ (r : ℕ). flagsAt (row r .fields) 0) (upto 0 16)
+    ++ map (λ (r : ℕ). flagsAt (row r .fields) 4) (upto 0 16)
+    ++ map (λ (r : ℕ). kindNumber (row r .kind)) (upto 0 16)
+    ++ map (λ (r : ℕ). row r .type) (upto 0 16)
+    ++ map laneBy (upto 0 128)
+    ++ map fromBy (upto 0 128)
+    ++ map atBy (upto 0 128)
+    ++ map firstBy (upto 0 256)
+    ++ map nextBy (upto 0 16)
+    ++ map (codeOf Data) (upto 0 256)
+    ++ map (codeOf Control) (upto 0 256)
+    ++ map (codeOf Calm) (upto 0 256)
+    ++ map (codeOf Set) (upto 0 256)
+    ++ map (codeOf Start) (upto 0 256)
+    ++ map (codeOf Terminate) (upto 0 256)
