@@ -1,0 +1,54 @@
+use Rattle.diagrams.specs.Diagram.{follows}
+use borrow.Author.Needs.{needs}
+use Rattle.diagrams.proofs.may_follow.Statement.{statement}
+use Rattle.diagrams.proofs.may_follow.Tie as tie
+
+enum-told : tie.Need-enum-told
+enum-told c = search needs
+
+enum-told-2 : tie.Need-enum-told-2
+enum-told-2 c = search needs
+
+enum-told-3 : tie.Need-enum-told-3
+enum-told-3 c = search needs
+
+enum-told-4 : tie.Need-enum-told-4
+enum-told-4 c = search needs
+
+enum-told-5 : tie.Need-enum-told-5
+enum-told-5 c = search needs
+
+returns : tie.Need-returns
+unfolding follows
+returns c = search needs
+
+returns-2 : tie.Need-returns-2
+unfolding follows
+returns-2 c = search needs
+
+returns-3 : tie.Need-returns-3
+unfolding follows
+returns-3 c = search needs
+
+returns-4 : tie.Need-returns-4
+unfolding follows
+returns-4 c = search needs
+
+returns-5 : tie.Need-returns-5
+unfolding follows
+returns-5 c = search needs
+
+pub may-follow-spec : {M : Type 1} → statement M
+may-follow-spec =
+    tie.close
+    (tie.spec
+    enum-told
+    enum-told-2
+    enum-told-3
+    enum-told-4
+    enum-told-5
+    returns
+    returns-2
+    returns-3
+    returns-4
+    returns-5)

@@ -1,0 +1,4 @@
+pub mod Lock
+pub mod Rate
+pub mod Diagram
+pub mod Parts

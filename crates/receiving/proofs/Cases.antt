@@ -1,0 +1,45 @@
+-- The definitions on examples, by computation.
+use mathlib.Core.Path.{_≡_, refl}
+use mathlib.Core.Bool.{true, false}
+use mathlib.Core.List.{[], _∷_, _++_, flatten}
+use lib.ListN.{replicate}
+use Rattle.diagrams.specs.declared.Lock.{Lock}
+use Rattle.bits.specs.Bits.{bit, number, listed, streamBit, lineBit, lineBits}
+use Rattle.block.specs.Block.{localFaultVector}
+use Rattle.diagrams.specs.Lock.{lockFresh, lockOf, slipsOf, countedOf, invalidOf}
+use Rattle.diagrams.specs.Rate.{rateOf, windowOf}
+use Rattle.receiving.specs.Machine.{run, feed, filled, testedOf, linkOf, validOf}
+use Rattle.receiving.specs.Receive.{answers, stateOf, answerIn, ends, letsEnd, slipsIn, runOf, vectorsOf, receivedVectors}
+use Rattle.receiving.specs.Answer.{received, receivedFor}
+use Rattle.receiving.proofs.Steps.{lockSteps}
+
+-- Document 01's receiver example: nine zero bytes are one block with an invalid header, which slips.
+nine-zeros : receivedVectors (replicate 9 0) ≡ localFaultVector
+unfolding receivedVectors vectorsOf runOf run feed filled lineBits lineBit listed streamBit bit number testedOf linkOf validOf answers stateOf answerIn ends letsEnd lockOf slipsOf countedOf invalidOf rateOf windowOf flatten
+nine-zeros = refl
+
+-- its counts
+nine-zeros-counts : receivedFor (replicate 9 0) ≡ received 1 1 false false 1
+unfolding receivedFor vectorsOf runOf run feed filled lineBits lineBit listed streamBit bit number testedOf linkOf validOf answers stateOf answerIn ends letsEnd lockOf slipsOf countedOf invalidOf rateOf windowOf slipsIn
+nine-zeros-counts = refl
+
+-- ---- the lock's steps over headers, each by whether it is valid
+
+-- 64 valid headers lock, and 63 do not; nor do 64 with an invalid one, which slips
+lock-cases : (lockSteps lockFresh (replicate 64 true) .locked ≡ true)
+    × (lockSteps lockFresh (replicate 63 true) .locked ≡ false)
+    × (lockSteps lockFresh (replicate 63 true ++ false ∷ []) ≡ lockFresh)
+    × (slipsOf (lockSteps lockFresh (replicate 63 true)) false ≡ true)
+unfolding lockSteps lockOf slipsOf countedOf invalidOf
+lock-cases = (refl, refl, refl, refl)
+
+-- in lock, 15 invalid headers of 64 stay, and the 16th slips
+locked : Lock
+locked = record { tested = 0; invalid = 0; locked = true }
+
+-- from that lock
+stay-cases : (lockSteps locked (replicate 15 false ++ replicate 49 true) ≡ locked)
+    × (lockSteps locked (replicate 16 false) ≡ lockFresh)
+    × (slipsOf (lockSteps locked (replicate 15 false)) false ≡ true)
+unfolding locked lockSteps lockOf slipsOf countedOf invalidOf
+stay-cases = (refl, refl, refl)

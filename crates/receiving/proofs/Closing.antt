@@ -1,0 +1,95 @@
+-- A whole line, from a fresh receiver to the vector of the last block. Assumes nothing.
+use Prim.Native.Nat.{ℕ, _+_, _*_, _/_, _≤_}
+use mathlib.Core.Path.{_≡_, sym, ap, ap₂, _∙_}
+use mathlib.Core.Bool.{false}
+use mathlib.Core.List.{List, _++_, append-assoc, flatten}
+use native.Mathlib.Omega.{arith}
+use lib.ListN.{length, take, drop, length-append}
+use lib.Seq.{drop-drop, length-take-le}
+use Rattle.bits.specs.Bits.{lineBits}
+use Rattle.diagrams.specs.declared.State.{State}
+use Rattle.diagrams.specs.declared.State.the-variants.{Init}
+use Rattle.receiving.specs.Machine.{Feed, Run, Tested, run}
+use Rattle.receiving.specs.Receive.{answers, slipsIn, runOf, vectorsOf, receivedVectors}
+use Rattle.receiving.specs.Answer.{received, receivedFor}
+use Rattle.receiving.specs.Loop.{heldIn, feedIn, settle, Settled, Fresh, Ends, written, heldBytes}
+use Rattle.receiving.specs.declared.Receiver.{Receiver}
+use Rattle.receiving.specs.declared.Progress.{Progress}
+use Rattle.receiving.proofs.Count.{length-answers, vectors-fit}
+use Rattle.receiving.proofs.Settle.{settled, last-bytes, flatten-append}
+
+module _ (line room : List ℕ) (r : Receiver) (f : Fresh r) (enough : 10 * (8 * length line / 66) ≤ length room) where
+  -- a fresh receiver's run is that of the definition
+  run-is : run (feedIn r) (lineBits line) ≡ runOf line
+  unfolding runOf
+  run-is = ap (λ (z : Feed). run z (lineBits line)) (f .feed)
+
+  -- all blocks of the line but the last, settled
+  abbrev σ : Settled
+  σ = settle Init (runOf line .tested)
+
+  -- and so is what it settles
+  settle-is : settle (r .state) (heldIn r ++ run (feedIn r) (lineBits line) .tested) ≡ σ
+  settle-is =
+      ap (λ (s : State). settle s (heldIn r ++ run (feedIn r) (lineBits line) .tested)) (f .state)
+      ∙ ap (λ (h : List Tested). settle Init (h ++ run (feedIn r) (lineBits line) .tested)) (f .held)
+      ∙ ap (λ (z : Run). settle Init (z .tested)) run-is
+
+  -- the vectors of the line: those settled, and that of the last block
+  all-bytes : receivedVectors line ≡ flatten (σ .vectors) ++ flatten (answers (σ .state) (σ .held))
+  unfolding receivedVectors vectorsOf
+  all-bytes = ap flatten (settled Init (runOf line .tested)) ∙ flatten-append (σ .vectors) (answers (σ .state) (σ .held))
+
+  -- what the loop writes fits the room
+  pub written-fits : length (written r line) ≤ length room
+  written-fits =
+      omega (
+        arith,
+        ap (λ (z : Settled). length (flatten (z .vectors))) settle-is,
+        ap length all-bytes,
+        length-append (flatten (σ .vectors)) (flatten (answers (σ .state) (σ .held))),
+        vectors-fit line,
+      )
+
+  module _ (room₁ : List ℕ) (p : Progress) (e : Ends line room room₁ r p) where
+    -- the bytes of the last block
+    abbrev pub last : List ℕ
+    last = heldBytes (p .receiver .have) (p .receiver .state) (p .receiver .held) false
+
+    -- the vectors of the line: what the loop wrote, and these
+    all-are : receivedVectors line ≡ take (p .at) room₁ ++ last
+    unfolding heldIn
+    all-are =
+        all-bytes
+        ∙ ap₂ (λ (x : List ℕ) (z : Settled). x ++ flatten (answers (z .state) (z .held)))
+        (sym (e .bytes ∙ ap (λ (z : Settled). flatten (z .vectors)) settle-is)) (sym settle-is)
+        ∙ ap₂ (λ (s : State) (h : List Tested). take (p .at) room₁ ++ flatten (answers s h)) (sym (e .state)) (sym (e .held))
+        ∙ ap (λ (l : List ℕ). take (p .at) room₁ ++ l) (last-bytes (p .receiver .have) (p .receiver .state) (p .receiver .held))
+
+    -- how many bytes that is
+    all-length : length (receivedVectors line) ≡ p .at + length last
+    all-length =
+        ap length all-are ∙ length-append (take (p .at) room₁) last
+        ∙ ap (λ (n : ℕ). n + length last) (length-take-le (p .at) room₁ (omega (arith, e .at, e .len)))
+
+    -- the last vector fits the room
+    pub last-fits : p .at + length last ≤ length room₁
+    last-fits = omega (arith, all-length, vectors-fit line, e .len)
+
+    -- the room, once it is written
+    pub room-is : (room₂ : List ℕ) → room₂ ≡ take (p .at) room₁ ++ (last ++ drop (p .at + length last) room₁)
+        → room₂ ≡ receivedVectors line ++ drop (length (receivedVectors line)) room
+    room-is room₂ er =
+        er ∙ sym (append-assoc (take (p .at) room₁) last (drop (p .at + length last) room₁))
+        ∙ ap₂ (λ (a b : List ℕ). a ++ b) (sym all-are)
+        (sym (drop-drop (length last) (p .at) room₁) ∙ ap (drop (length last)) (e .rest) ∙ drop-drop (length last) (p .at) room
+        ∙ ap (λ (n : ℕ). drop n room) (sym all-length))
+
+    -- the counts are those of the definition
+    pub answer-is : received (p .tested) (p .slips) (p .receiver .link .lock .locked) (p .receiver .link .rate .high) (p .tested) ≡ receivedFor line
+    unfolding receivedFor vectorsOf feedIn
+    answer-is =
+        let n : p .tested ≡ length (runOf line .tested) = e .tested ∙ ap (λ (z : Run). length (z .tested)) run-is in
+        let m : p .slips ≡ slipsIn (runOf line .tested) = e .slips ∙ ap (λ (z : Run). slipsIn (z .tested)) run-is in
+        let l : p .receiver .link ≡ runOf line .end .link = ap (λ (z : Feed). z .link) (e .feed) ∙ ap (λ (z : Run). z .end .link) run-is in
+        rw (n, m, l, length-answers)

@@ -1,0 +1,10 @@
+pub mod Runs
+pub mod Steps
+pub mod Ranges
+pub mod Count
+pub mod Settle
+pub mod Turning
+pub mod Closing
+pub mod Verdict
+pub mod Unique
+pub mod Cases

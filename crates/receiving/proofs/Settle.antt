@@ -1,0 +1,126 @@
+-- The vectors of all blocks but the last, the block held, and its bytes in the room. Assumes nothing.
+use Prim.Native.Nat.{ℕ, _+_, _≤_}
+use mathlib.Core.Path.{_≡_, refl, sym, ap, ap₂, _∙_}
+use mathlib.Core.Bool.{Bool, true, false, cond}
+use mathlib.Core.List.{List, [], _∷_, _++_, append-assoc, append-nil, flatten}
+use native.Mathlib.Omega.{arith}
+use native.Mathlib.Nat.{add-zero}
+use lib.ListN.{length, take, drop, length-append, length-drop, take-append-drop}
+use lib.Seq.{take-at, drop-at, length-take-le}
+use Rattle.decoding.specs.Vector.{vectorBytes}
+use Rattle.decoding.specs.declared.Vector.{Vector}
+use Rattle.diagrams.specs.declared.State.{State}
+use Rattle.receiving.specs.Machine.{Tested}
+use Rattle.receiving.specs.Receive.{letsEnd, ends, stateOf, answerIn, answers}
+use Rattle.receiving.specs.Loop.{testedIn, settle, heldState, heldBytes}
+use Rattle.receiving.specs.declared.Held.{Held}
+use Rattle.receiving.proofs.Count.{length-answer}
+
+-- ---- bytes put into the room
+
+module _ (room xs : List ℕ) (at : ℕ) (fits : at + length xs ≤ length room) where
+  -- the room with the bytes in it
+  abbrev pub put : List ℕ
+  put = take at room ++ (xs ++ drop (at + length xs) room)
+
+  -- what stands before them and they, then the rest
+  joined : put ≡ (take at room ++ xs) ++ drop (at + length xs) room
+  joined = sym (append-assoc (take at room) xs (drop (at + length xs) room))
+
+  -- how much that is
+  upto : length (take at room ++ xs) ≡ at + length xs
+  upto = length-append (take at room) xs ∙ ap (λ (n : ℕ). n + length xs) (length-take-le at room (omega arith))
+
+  -- the room up to their end
+  pub put-take : take (at + length xs) put ≡ take at room ++ xs
+  put-take = ap (take (at + length xs)) joined ∙ take-at (take at room ++ xs) (drop (at + length xs) room) (at + length xs) upto
+
+  -- the room behind them is as it was
+  pub put-drop : drop (at + length xs) put ≡ drop (at + length xs) room
+  put-drop = ap (drop (at + length xs)) joined ∙ drop-at (take at room ++ xs) (drop (at + length xs) room) (at + length xs) upto
+
+  -- the room is as long as it was
+  pub put-length : length put ≡ length room
+  put-length =
+      ap length joined ∙ length-append (take at room ++ xs) (drop (at + length xs) room) ∙ omega (arith, upto, length-drop (at + length xs) room)
+
+-- ---- the block held
+
+-- the bytes of a block that is held are ten
+pub held-ten : (s : State) (h : Held) (e : Bool) → length (heldBytes true s h e) ≡ 10
+held-ten s h e = length-answer (stateOf s (testedIn h) e) (vectorBytes (h .vector)) refl
+
+-- what answering it does to the room
+pub held-put : (have : Bool) (s : State) (h : Held) (e : Bool) (room room′ : List ℕ) (at : ℕ) (s′ : State) (v : Vector)
+    → have ≡ true → s′ ≡ stateOf s (testedIn h) e → vectorBytes v ≡ answerIn s′ (vectorBytes (h .vector))
+    → room′ ≡ take at room ++ (vectorBytes v ++ drop (at + 10) room)
+    → (s′ ≡ heldState have s h e) × (at + 10 ≡ at + length (heldBytes have s h e))
+    × (room′ ≡ take at room ++ (heldBytes have s h e ++ drop (at + length (heldBytes have s h e)) room))
+held-put have s h e room room′ at s′ v eh es ev er =
+    let b : heldBytes have s h e ≡ vectorBytes v =
+    ap (λ (z : Bool). heldBytes z s h e) eh ∙ sym (ev ∙ ap (λ (u : State). answerIn u (vectorBytes (h .vector))) es) in
+    let n : length (heldBytes have s h e) ≡ 10 = ap length b in (
+      es ∙ sym (ap (λ (z : Bool). heldState z s h e) eh),
+      ap (λ (k : ℕ). at + k) (sym n),
+      er ∙ sym (ap₂ (λ (x : List ℕ) (k : ℕ). take at room ++ (x ++ drop (at + k) room)) b n),
+    )
+
+-- where none is held, nothing changes
+pub none-put : (have : Bool) (s : State) (h : Held) (e : Bool) (room : List ℕ) (at : ℕ) → have ≡ false
+    → (s ≡ heldState have s h e) × (at ≡ at + length (heldBytes have s h e))
+    × (room ≡ take at room ++ (heldBytes have s h e ++ drop (at + length (heldBytes have s h e)) room))
+none-put have s h e room at eh = (rw eh, rw eh (sym (add-zero at)), rw (eh, add-zero) (sym (take-append-drop at room)))
+
+-- ---- one more block behind the one held
+
+-- the block that is held, if there is one
+abbrev holding : Bool → Held → List Tested
+holding have h = cond have (testedIn h ∷ []) []
+
+module _ (s : State) (h : Held) (t : Tested) (ts : List Tested) where
+  -- the bytes: those of the block held, and then those of the rest
+  pub settle-bytes : (have : Bool)
+      → flatten (settle s (holding have h ++ t ∷ ts) .vectors)
+      ≡ heldBytes have s h (letsEnd t) ++ flatten (settle (heldState have s h (letsEnd t)) (t ∷ ts) .vectors)
+  unfolding settle flatten testedIn
+  settle-bytes true = refl
+  settle-bytes false = refl
+
+  -- the state at the end
+  pub settle-state : (have : Bool) → settle s (holding have h ++ t ∷ ts) .state ≡ settle (heldState have s h (letsEnd t)) (t ∷ ts) .state
+  unfolding settle testedIn
+  settle-state true = refl
+  settle-state false = refl
+
+  -- the block held at the end
+  pub settle-held : (have : Bool) → settle s (holding have h ++ t ∷ ts) .held ≡ settle (heldState have s h (letsEnd t)) (t ∷ ts) .held
+  unfolding settle testedIn
+  settle-held true = refl
+  settle-held false = refl
+
+-- ---- the end of the line
+
+-- a block that is held stays held
+pub settle-last : (have : Bool) (s : State) (h : Held) → settle s (holding have h ++ []) ≡ record { vectors = []; state = s; held = holding have h }
+unfolding settle
+settle-last true s h = refl
+settle-last false s h = refl
+
+-- the vectors of all blocks: those settled, and then that of the block held, with no next block
+pub settled : (s : State) (ts : List Tested) → answers s ts ≡ settle s ts .vectors ++ answers (settle s ts .state) (settle s ts .held)
+unfolding answers settle ends
+settled s [] = refl
+settled s (t ∷ []) = refl
+settled s (t ∷ u ∷ ts) = ap (λ (l : List (List ℕ)). answerIn (stateOf s t (letsEnd u)) (t .vector) ∷ l) (settled (stateOf s t (letsEnd u)) (u ∷ ts))
+
+-- the vector of the block held at the end of the input
+pub last-bytes : (have : Bool) (s : State) (h : Held) → flatten (answers s (holding have h)) ≡ heldBytes have s h false
+unfolding answers ends flatten testedIn
+last-bytes true s h = append-nil _
+last-bytes false s h = refl
+
+-- the bytes of joined lists of vectors
+pub flatten-append : (a b : List (List ℕ)) → flatten (a ++ b) ≡ flatten a ++ flatten b
+unfolding flatten
+flatten-append [] b = refl
+flatten-append (x ∷ a) b = ap (λ (l : List ℕ). x ++ l) (flatten-append a b) ∙ sym (append-assoc x (flatten a) (flatten b))

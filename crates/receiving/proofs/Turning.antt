@@ -1,0 +1,304 @@
+-- One turn of the receiving loop, and its end. What is written and counted so far, with what the definition still gives from here, is
+-- what it gives of the whole line. Assumes nothing.
+use Prim.Native.Nat.{ℕ, suc, _+_, _-_, _*_, _≤_, _<_}
+use mathlib.Core.Path.{_≡_, refl, sym, ap, ap₂, _∙_, subst}
+use mathlib.Core.Bool.{Bool, true, false, cond}
+use mathlib.Core.List.{List, [], _∷_, _++_, append-assoc, append-nil, flatten}
+use native.Mathlib.Omega.{arith}
+use native.Mathlib.Nat.{add-assoc}
+use native.Mathlib.Numerals.{add-one}
+use lib.ListN.{length, getD, take, drop, length-append, take-append-drop, drop-of-length-le}
+use lib.Seq.{drop-drop, drop-cons, length-take-le}
+use Rattle.bits.specs.Bits.{lineBits}
+use Rattle.bits.proofs.Lists.{length-lineBits}
+use Rattle.carrying.specs.Carrying.{carriedBits, Sound, Takes}
+use Rattle.carrying.specs.declared.Taken.{Taken}
+use Rattle.carrying.proofs.Laws.{length-carried}
+use Rattle.diagrams.specs.Lock.{slipsOf}
+use Rattle.diagrams.specs.declared.State.{State}
+use Rattle.receiving.specs.Machine.{Feed, Run, Tested, run, linkOf, testedOf, validOf, headerOf, payloadOf}
+use Rattle.receiving.specs.Receive.{letsEnd, slipsIn}
+use Rattle.receiving.specs.Ranges.{InRange}
+use Rattle.receiving.specs.Loop.{testedIn, heldIn, feedIn, settle, Outcome, outcomeOf, outcome, Under, Turns, Ends, written, heldState, heldBytes}
+use Rattle.receiving.specs.declared.Link.{Link}
+use Rattle.receiving.specs.declared.Held.{Held}
+use Rattle.receiving.specs.declared.Receiver.{Receiver}
+use Rattle.receiving.specs.declared.Progress.{Progress}
+use Rattle.receiving.proofs.Runs.{after, run-fill, run-skip, run-wait}
+use Rattle.receiving.proofs.Ranges.{range-next}
+use Rattle.receiving.proofs.Settle.{put-take, put-drop, put-length, settle-bytes, settle-state, settle-held, settle-last}
+
+-- ---- the run from here, by what is taken
+
+-- a receiver's feed by its parts
+feedOf : List ℕ → Bool → Link → Feed
+unfolding feedIn
+feedOf bits skip l = record { bits = bits; skip = skip; link = l }
+
+-- one bit that is skipped or waits
+wait-run : (B : List ℕ) (pos : ℕ) (skip : Bool) (c c′ : List ℕ) (l : Link) → pos < length B
+    → c′ ≡ cond skip [] (c ++ getD B pos 0 ∷ []) → (skip ≡ false → length c < 65)
+    → run (feedOf c skip l) (drop pos B) ≡ run (feedOf c′ false l) (drop (pos + 1) B)
+unfolding feedOf
+wait-run B pos true c c′ l h e s =
+    ap (run (feedOf c true l)) (drop-cons B pos 0 h) ∙ run-skip l c (getD B pos 0) (drop (suc pos) B)
+    ∙ ap₂ (λ (x : List ℕ) (n : ℕ). run (feedOf x false l) (drop n B)) (sym e) (sym (add-one pos))
+wait-run B pos false c c′ l h e s =
+    ap (run (feedOf c false l)) (drop-cons B pos 0 h) ∙ run-wait l c (getD B pos 0) (drop (suc pos) B) (s refl)
+    ∙ ap₂ (λ (x : List ℕ) (n : ℕ). run (feedOf x false l) (drop n B)) (sym e) (sym (add-one pos))
+
+-- bits that fill a block
+fill-run : (B : List ℕ) (pos next : ℕ) (c : List ℕ) (l : Link) (h q : ℕ) → pos < next → length c < 66
+    → length (c ++ take (next - pos) (drop pos B)) ≡ 66
+    → h ≡ headerOf (c ++ take (next - pos) (drop pos B))
+    → q ≡ payloadOf (c ++ take (next - pos) (drop pos B))
+    → run (feedOf c false l) (drop pos B)
+    ≡ after (testedOf l h q ∷ []) (run (feedOf [] (slipsOf (l .lock) (validOf h)) (linkOf l h q)) (drop next B))
+unfolding feedOf
+fill-run B pos next c l h q past few whole eh eq =
+    let X = drop pos B in
+    let n = next - pos in
+    let e : pos + (next - pos) ≡ next = omega arith in
+    let len : length c + length (take (next - pos) (drop pos B)) ≡ 66 = sym (length-append c (take n X)) ∙ whole in
+    ap (run (feedOf c false l)) (sym (take-append-drop n X))
+    ∙ run-fill l c (take n X) (drop n X) len (omega arith)
+    ∙ ap (λ (z : List ℕ). after (testedOf l (headerOf (c ++ take n X)) (payloadOf (c ++ take n X)) ∷ []) (run (feedOf [] (slipsOf (l .lock) (validOf (headerOf (c ++ take n X)))) (linkOf l (headerOf (c ++ take n X)) (payloadOf (c ++ take n X)))) z))
+    (drop-drop n pos B ∙ ap (λ (k : ℕ). drop k B) e)
+    ∙ sym
+    (ap₂ (λ (a b : ℕ). after (testedOf l a b ∷ []) (run (feedOf [] (slipsOf (l .lock) (validOf a)) (linkOf l a b)) (drop next B))) eh eq)
+
+-- ---- a turn that tests no block
+
+-- the receiver after the bit
+abbrev pub waited : Progress → Taken → Progress
+waited p t =
+    record {
+      receiver =
+          record {
+            skip = false;
+            carried = t .carried;
+            link = p .receiver .link;
+            state = p .receiver .state;
+            have = p .receiver .have;
+            held = p .receiver .held;
+          };
+      pos = t .next;
+      at = p .at;
+      tested = p .tested;
+      slips = p .slips;
+    }
+
+module _ (line room : List ℕ) (p : Progress) (u : Under line room p) (here : p .pos < 8 * length line) (t : Taken)
+    (k : Takes (lineBits line) (p .pos) (p .receiver .skip) (p .receiver .carried) t) where
+  -- nothing changes in what comes of it
+  waited-same : t .full ≡ false → outcome line room (waited p t) ≡ outcome line room p
+  unfolding outcome heldIn feedIn feedOf
+  waited-same idle =
+      let w = k .waits idle in
+      let r = p .receiver in
+      let shorter : r .skip ≡ false → length (carriedBits (r .carried)) < 65 = λ z. rw length-carried (w .short z) in
+      ap (outcomeOf (take (p .at) room) (r .state) (heldIn r) (p .tested) (p .slips))
+      (ap (λ (n : ℕ). run (feedOf (carriedBits (t .carried)) false (r .link)) (drop n (lineBits line))) (w .one)
+      ∙ sym
+      (wait-run (lineBits line) (p .pos) (r .skip) (carriedBits (r .carried)) (carriedBits (t .carried)) (r .link) (omega (arith, length-lineBits line))
+      (w .carried) shorter))
+
+  -- so that is a turn
+  pub turn-wait : t .full ≡ false → Turns line room room p (waited p t)
+  turn-wait idle =
+      record {
+        under =
+            record {
+              range = u .range;
+              sound = k .sound;
+              pos = omega (arith, k .within, length-lineBits line);
+              at = u .at;
+              fits = subst (λ (o : Outcome). length (o .bytes) ≤ length room) (sym (waited-same idle)) (u .fits);
+              tested = omega (arith, u .tested, k .past);
+              slips = u .slips;
+            };
+        same = waited-same idle;
+        past = k .past;
+        grows = omega arith;
+        rest = refl;
+        len = refl;
+      }
+
+-- ---- a turn that tests a block
+
+-- the receiver after the block
+abbrev pub moved : Progress → Taken → Link → Held → State → (at slips : ℕ) → Progress
+moved p t link h s at n =
+    record {
+      receiver = record { skip = h .slipped; carried = t .carried; link = link; state = s; have = true; held = h };
+      pos = t .next;
+      at = at;
+      tested = p .tested + 1;
+      slips = p .slips + n;
+    }
+
+-- outcomes with equal parts
+outcome-same : (b b′ : List ℕ) (s s′ : State) (h h′ : List Tested) (t t′ n n′ : ℕ) (e : Feed) → b ≡ b′ → s ≡ s′ → h ≡ h′ → t ≡ t′ → n ≡ n′
+    → _≡_ {A = Outcome} (record { bytes = b; state = s; held = h; tested = t; slips = n; end = e })
+    (record { bytes = b′; state = s′; held = h′; tested = t′; slips = n′; end = e })
+outcome-same b b′ s s′ h h′ t t′ n n′ e p q r u v = rw (p, q, r, u, v)
+
+module _ (line room : List ℕ) (p : Progress) (u : Under line room p) (t : Taken)
+    (k : Takes (lineBits line) (p .pos) (p .receiver .skip) (p .receiver .carried) t) (full : t .full ≡ true) (link : Link) (h : Held)
+    (el : link ≡ linkOf (p .receiver .link) (t .header) (t .payload)) (eh : testedIn h ≡ testedOf (p .receiver .link) (t .header) (t .payload)) where
+  -- what is still to be run over after this block
+  left : Run
+  unfolding feedOf
+  left = run (feedOf (carriedBits (t .carried)) (h .slipped) link) (drop (t .next) (lineBits line))
+
+  -- whether it slips is the lock's to say
+  slipped-is : h .slipped ≡ slipsOf (p .receiver .link .lock) (validOf (t .header))
+  unfolding testedIn testedOf
+  slipped-is = ap (λ (x : Tested). x .slipped) eh
+
+  -- the run from here: this block, and what is left
+  block-run : run (feedIn (p .receiver)) (drop (p .pos) (lineBits line)) ≡ after (testedIn h ∷ []) left
+  unfolding feedIn feedOf left
+  block-run =
+      let f = k .fills full in
+      let r = p .receiver in
+      let few : length (carriedBits (r .carried)) < 66 = rw length-carried (u .sound .few) in
+      ap (λ (b : Bool). run (feedOf (carriedBits (r .carried)) b (r .link)) (drop (p .pos) (lineBits line))) (f .kept)
+      ∙ fill-run (lineBits line) (p .pos) (t .next) (carriedBits (r .carried)) (r .link) (t .header) (t .payload) (k .past) few (f .whole) (f .header) (f .payload)
+      ∙ rw (← eh, f .none, slipped-is, el)
+
+  -- the bytes of the block held
+  abbrev bytes : List ℕ
+  bytes = heldBytes (p .receiver .have) (p .receiver .state) (p .receiver .held) (letsEnd (testedIn h))
+
+  -- the state after it
+  abbrev after-held : State
+  after-held = heldState (p .receiver .have) (p .receiver .state) (p .receiver .held) (letsEnd (testedIn h))
+
+  -- what is still to be written starts with them
+  bytes-are : outcome line room p .bytes ≡ take (p .at) room ++ (bytes ++ flatten (settle after-held (testedIn h ∷ left .tested) .vectors))
+  unfolding outcome heldIn
+  bytes-are =
+      ap (λ (r : Run). take (p .at) room ++ flatten (settle (p .receiver .state) (heldIn (p .receiver) ++ r .tested) .vectors)) block-run
+      ∙ ap (λ (l : List ℕ). take (p .at) room ++ l)
+      (settle-bytes (p .receiver .state) (p .receiver .held) (testedIn h) (left .tested) (p .receiver .have))
+
+  -- the vector of the block held fits the room
+  pub held-fits : p .at + length bytes ≤ length room
+  held-fits =
+      let later = flatten (settle after-held (testedIn h ∷ left .tested) .vectors) in
+      omega (arith, ap length bytes-are, length-append (take (p .at) room) (bytes ++ later), length-append bytes later, length-take-le (p .at) room (u .at), u .fits)
+
+  module _ (s : State) (at n : ℕ) (room′ : List ℕ) (es : s ≡ after-held) (ea : at ≡ p .at + length bytes)
+      (er : room′ ≡ take (p .at) room ++ (bytes ++ drop (p .at + length bytes) room)) (en : n ≡ cond (h .slipped) 1 0) (few : n ≤ 1) where
+    -- what is written now
+    taken-is : take at room′ ≡ take (p .at) room ++ bytes
+    taken-is = ap₂ take ea er ∙ put-take room bytes (p .at) held-fits
+
+    -- nothing changes in what comes of it
+    moved-same : outcome line room′ (moved p t link h s at n) ≡ outcome line room p
+    unfolding outcome heldIn feedIn feedOf left slipsIn testedIn
+    moved-same =
+        let r = p .receiver in
+        let ts = left .tested in
+        let later = flatten (settle after-held (testedIn h ∷ ts) .vectors) in
+        outcome-same _ _ _ _ _ _ _ _ _ _ (left .end)
+        (ap₂ (λ (x : List ℕ) (z : State). x ++ flatten (settle z (testedIn h ∷ ts) .vectors)) taken-is es
+        ∙ append-assoc (take (p .at) room) bytes later
+        ∙ ap (λ (l : List ℕ). take (p .at) room ++ l) (sym (settle-bytes (r .state) (r .held) (testedIn h) ts (r .have))))
+        (ap (λ (z : State). settle z (testedIn h ∷ ts) .state) es ∙ sym (settle-state (r .state) (r .held) (testedIn h) ts (r .have)))
+        (ap (λ (z : State). settle z (testedIn h ∷ ts) .held) es ∙ sym (settle-held (r .state) (r .held) (testedIn h) ts (r .have)))
+        (omega arith)
+        (ap (λ (m : ℕ). p .slips + m + slipsIn ts) en ∙ add-assoc (p .slips) (cond (h .slipped) 1 0) (slipsIn ts))
+        ∙ sym (ap (outcomeOf (take (p .at) room) (r .state) (heldIn r) (p .tested) (p .slips)) block-run)
+
+    -- the room is as long as it was
+    len-is : length room′ ≡ length room
+    len-is = ap length er ∙ put-length room bytes (p .at) held-fits
+
+    -- so that is a turn
+    pub turn-block : Turns line room room′ p (moved p t link h s at n)
+    turn-block =
+        record {
+          under =
+              record {
+                range = subst InRange (sym el) (range-next (p .receiver .link) (t .header) (t .payload) (u .range));
+                sound = k .sound;
+                pos = omega (arith, k .within, length-lineBits line);
+                at = omega (arith, ea, held-fits, len-is);
+                fits = omega (arith, len-is, ap (λ (o : Outcome). length (o .bytes)) moved-same, u .fits);
+                tested = omega (arith, u .tested, k .past);
+                slips = omega (arith, u .slips, few);
+              };
+          same = moved-same;
+          past = k .past;
+          grows = omega arith;
+          rest = ap₂ drop ea er ∙ put-drop room bytes (p .at) held-fits ∙ ap (λ (i : ℕ). drop i room) (sym ea);
+          len = len-is;
+        }
+
+-- ---- the loop
+
+-- what holds at each turn, from the room and the receiver at the start
+pub record Looping (line room₀ room : List ℕ) (p₀ p : Progress) : Type 0 where
+  pub under : Under line room p
+  pub same : outcome line room p ≡ outcome line room₀ p₀
+  pub rest : drop (p .at) room ≡ drop (p .at) room₀
+  pub len : length room ≡ length room₀
+
+-- a receiver at the first bit of the line
+abbrev pub begun : Receiver → Progress
+begun r = record { receiver = r; pos = 0; at = 0; tested = 0; slips = 0 }
+
+-- it holds at the first turn
+pub loop-first : (line room : List ℕ) (r : Receiver) → InRange (r .link) → Sound (r .carried) → length (written r line) ≤ length room
+    → Looping line room room (begun r) (begun r)
+unfolding outcome
+loop-first line room r g s f =
+    record {
+      under =
+          record { range = g; sound = s; pos = omega arith; at = omega arith; fits = f; tested = omega arith; slips = omega arith };
+      same = refl;
+      rest = refl;
+      len = refl;
+    }
+
+-- a turn keeps it
+pub loop-next : (line room₀ room room′ : List ℕ) (p₀ p p′ : Progress) → Looping line room₀ room p₀ p → Turns line room room′ p p′
+    → Looping line room₀ room′ p₀ p′
+loop-next line room₀ room room′ p₀ p p′ i t =
+    let n : p′ .at ≡ p .at + (p′ .at - p .at) = omega (arith, t .grows) in
+    record {
+      under = t .under;
+      same = t .same ∙ i .same;
+      rest =
+          t .rest ∙ ap (λ (j : ℕ). drop j room) n ∙ sym (drop-drop (p′ .at - p .at) (p .at) room)
+          ∙ ap (drop (p′ .at - p .at)) (i .rest) ∙ drop-drop (p′ .at - p .at) (p .at) room₀ ∙ sym (ap (λ (j : ℕ). drop j room₀) n);
+      len = t .len ∙ i .len;
+    }
+
+-- no bit is left
+ended : (line room : List ℕ) (p : Progress) → 8 * length line ≤ p .pos
+    → outcome line room p
+    ≡ record { bytes = take (p .at) room ++ []; state = p .receiver .state; held = heldIn (p .receiver); tested = p .tested + 0; slips = p .slips + 0; end = feedIn (p .receiver) }
+unfolding outcome heldIn run slipsIn flatten
+ended line room p over =
+    rw (drop-of-length-le (lineBits line) {i = p .pos} (omega (arith, length-lineBits line)), settle-last (p .receiver .have) (p .receiver .state) (p .receiver .held))
+
+-- so at the end everything is settled
+pub loop-ends : (line room₀ room : List ℕ) (r : Receiver) (p : Progress) → Looping line room₀ room (begun r) p → 8 * length line ≤ p .pos
+    → Ends line room₀ room r p
+unfolding outcome
+loop-ends line room₀ room r p i over =
+    let e = sym (ended line room p over) ∙ i .same in
+    record {
+      feed = ap (λ (o : Outcome). o .end) e;
+      state = ap (λ (o : Outcome). o .state) e;
+      held = ap (λ (o : Outcome). o .held) e;
+      bytes = sym (append-nil (take (p .at) room)) ∙ ap (λ (o : Outcome). o .bytes) e;
+      at = omega (arith, i .under .at, i .len);
+      rest = i .rest;
+      len = i .len;
+      tested = omega (arith, ap (λ (o : Outcome). o .tested) e);
+      slips = omega (arith, ap (λ (o : Outcome). o .slips) e);
+    }

@@ -1,0 +1,46 @@
+-- The promise of receiving fixes the whole answer and every byte of the room: any two that meet it are equal. Assumes nothing.
+use Prim.Native.Nat.{ℕ}
+use mathlib.Core.Path.{_≡_, sym, ap, _∙_}
+use mathlib.Core.List.{List}
+use native.Mathlib.Omega.{arith}
+use lib.ListN.{length}
+use Rattle.refusals.proofs.Laws.{number-injective}
+use Rattle.refusals.specs.Number.{numberOf}
+use Rattle.refusals.specs.declared.Refusal.{Refusal}
+use Rattle.receiving.specs.Answer.{received, refused, answerOf, receiveAnswer, receiveRoom}
+use Rattle.receiving.specs.declared.Receiving.{Receiving}
+use Rattle.receiving.specs.declared.Received.{Received}
+use Rattle.receiving.specs.declared.Received.the-variants.{Done, Refused}
+
+-- equal refusals have equal numbers
+same-number : (a b p q : ℕ) → refused a p ≡ refused b q → a ≡ b
+same-number a b p q e = cc
+
+-- and equal places
+same-place : (a b p q : ℕ) → refused a p ≡ refused b q → p ≡ q
+same-place a b p q e = cc
+
+-- equal values are those of equal summaries
+same-values : (a b : Receiving) → received (a .tested) (a .slips) (a .locked) (a .high) (a .vectors) ≡ received (b .tested) (b .slips) (b .locked) (b .high) (b .vectors) → a ≡ b
+same-values a b e =
+    let t : a .tested ≡ b .tested = cc in
+    let s : a .slips ≡ b .slips = cc in
+    let l : a .locked ≡ b .locked = cc in
+    let h : a .high ≡ b .high = cc in
+    let v : a .vectors ≡ b .vectors = cc in
+    rw (t, s, l, h, v)
+
+-- the document's numbers and values tell the answer
+answer-injective : (a b : Received) → answerOf a ≡ answerOf b → a ≡ b
+answer-injective (Done r) (Done s) e = ap Done (same-values r s e)
+answer-injective (Done r) (Refused n p) e = absurd (let z : _≡_ {A = ℕ} 0 1 = cc in omega arith)
+answer-injective (Refused n p) (Done r) e = absurd (let z : _≡_ {A = ℕ} 0 1 = cc in omega arith)
+answer-injective (Refused n p) (Refused m q) e =
+    ap (λ (x : Refusal). Refused x p) (number-injective n m (same-number (numberOf n) (numberOf m) p q e)) ∙ ap (Refused m) (same-place (numberOf n) (numberOf m) p q e)
+
+-- `receive`
+pub receive-unique : (line room room₁ room₂ : List ℕ) (a b : Received)
+    → (answerOf a ≡ receiveAnswer line (length room)) × (room₁ ≡ receiveRoom line room)
+    → (answerOf b ≡ receiveAnswer line (length room)) × (room₂ ≡ receiveRoom line room)
+    → (a ≡ b) × (room₁ ≡ room₂)
+receive-unique line room room₁ room₂ a b (p, q) (r, s) = (answer-injective a b (p ∙ sym r), q ∙ sym s)

@@ -1,0 +1,77 @@
+-- `receiving::receive_with` meets its contract. Each refusal by the test that led to it; else the loop, and the block held at its end. Assumes nothing.
+use mathlib.Core.Path.{ap, _∙_}
+use borrow.Author.Needs.{needs}
+use denote.Ref.{now}
+use lib.ListN.{length}
+use Rattle.receiving.proofs.Settle.{put-length}
+use Rattle.receiving.proofs.Closing.{written-fits, last, last-fits, room-is, answer-is}
+use Rattle.receiving.proofs.Verdict.{too-much, no-room, passes}
+use Rattle.receiving.proofs.receive_with.Statement.{statement}
+use Rattle.receiving.proofs.receive_with.Tie as tie
+
+returns : tie.Need-returns
+returns c = too-much (now (c .before .before .before .args .line)) (now (c .before .before .before .args .room)) (c .if1 .taken)
+
+mul-if2 : tie.Need-mul-if2
+mul-if2 c = search needs
+
+mul-if2-2 : tie.Need-mul-if2-2
+mul-if2-2 c = search needs
+
+returns-2 : tie.Need-returns-2
+returns-2 c = no-room (now (c .before .before .before .before .args .line)) (now (c .before .before .before .before .args .room)) (c .before .if1 .left) (c .if2 .taken)
+
+fresh-requires : tie.Need-fresh-requires
+fresh-requires c κs = search needs
+
+receive-bits-requires : tie.Need-receive-bits-requires
+receive-bits-requires c κs =
+    let pre = c .before .before .before .before .before .before .pre in
+    let args = c .before .before .before .before .before .before .args in
+    (pre, c .before .before .before .if1 .left, c .fresh .ensures .range, c .fresh .ensures .sound, written-fits (now (args .line)) (now (args .room)) (c .fresh .result) (c .fresh .ensures) (c .before .before .if2 .left))
+
+settle-held-requires : tie.Need-settle-held-requires
+settle-held-requires c κs =
+    let args = c .before .before .before .before .before .before .before .before .before .before .before .before .before .before .before .args in
+    let if2 = c .before .before .before .before .before .before .before .before .before .before .before .if2 in
+    let fresh = c .before .before .before .before .before .before .before .before .before .fresh in
+    let receive-bits = c .before .before .before .before .before .before .before .before .receive-bits in
+    last-fits (now (args .line)) (now (args .room)) (fresh .result) (fresh .ensures) (if2 .left)
+    (receive-bits .last .1 .1 .1 .0) (receive-bits .result) (receive-bits .ensures)
+
+same-length : tie.Need-same-length
+same-length c =
+    let args = c .before .before .before .before .before .before .before .before .before .before .before .before .before .before .before .before .before .before .args in
+    let if2 = c .before .before .before .before .before .before .before .before .before .before .before .before .before .before .if2 in
+    let fresh = c .before .before .before .before .before .before .before .before .before .before .before .before .fresh in
+    let receive-bits = c .before .before .before .before .before .before .before .before .before .before .before .receive-bits in
+    ap length (c .before .before .settle-held .ensures .2) ∙ put-length (receive-bits .last .1 .1 .1 .0)
+    (last (now (args .line)) (now (args .room)) (fresh .result) (fresh .ensures) (if2 .left) (receive-bits .last .1 .1 .1 .0) (receive-bits .result) (receive-bits .ensures))
+    (receive-bits .result .at)
+    (last-fits (now (args .line)) (now (args .room)) (fresh .result) (fresh .ensures) (if2 .left) (receive-bits .last .1 .1 .1 .0) (receive-bits .result) (receive-bits .ensures))
+    ∙ receive-bits .ensures .len
+
+returns-3 : tie.Need-returns-3
+returns-3 c =
+    let args = c .before .before .before .before .before .before .before .before .before .before .before .before .before .before .before .before .before .before .args in
+    let if1 = c .before .before .before .before .before .before .before .before .before .before .before .before .before .before .before .if1 in
+    let if2 = c .before .before .before .before .before .before .before .before .before .before .before .before .before .before .if2 in
+    let fresh = c .before .before .before .before .before .before .before .before .before .before .before .before .fresh in
+    let receive-bits = c .before .before .before .before .before .before .before .before .before .before .before .receive-bits in
+    let settle-held = c .before .before .settle-held in
+    let v = passes (now (args .line)) (now (args .room)) (if1 .left) (if2 .left) in
+    (answer-is (now (args .line)) (now (args .room)) (fresh .result) (fresh .ensures) (if2 .left) (receive-bits .last .1 .1 .1 .0) (receive-bits .result) (receive-bits .ensures) ∙ v .0, room-is (now (args .line)) (now (args .room)) (fresh .result) (fresh .ensures) (if2 .left) (receive-bits .last .1 .1 .1 .0) (receive-bits .result) (receive-bits .ensures) (settle-held .last .0) (settle-held .ensures .2) ∙ v .1)
+
+pub receive-with-spec : {M : Type 1} → statement M
+receive-with-spec =
+    tie.close
+    (tie.spec
+    returns
+    mul-if2
+    mul-if2-2
+    returns-2
+    fresh-requires
+    receive-bits-requires
+    settle-held-requires
+    same-length
+    returns-3)

@@ -1,0 +1,54 @@
+-- Document 01, 'Diagrams', Receive: the diagram over the tested blocks, with a look at the next.
+use Prim.Native.Nat.{ℕ, _+_}
+use mathlib.Core.Bool.{Bool, false, cond, _&&_}
+use mathlib.Core.List.{List, [], _∷_, flatten}
+use Rattle.bits.specs.Bits.{lineBits}
+use Rattle.block.specs.Block.{errorVector, localFaultVector}
+use Rattle.diagrams.specs.Diagram.{diagramOf, follows}
+use Rattle.diagrams.specs.declared.State.{State}
+use Rattle.diagrams.specs.declared.State.the-variants.{Init, Control, Data, Terminate, Error}
+use Rattle.receiving.specs.Machine.{Tested, Run, run, at, linkFresh}
+
+-- Whether the next block is S or C: it "counts as E if testing it leaves the receiver not locked or high, and at the end of the input".
+unfoldable pub letsEnd : Tested → Bool
+letsEnd t = t .on && follows (t .kind)
+
+unfoldable pub ends : List Tested → Bool
+ends [] = false
+ends (t ∷ ts) = letsEnd t
+
+-- "Not locked or high: state INIT .. Else" the diagram's step
+unfoldable pub stateOf : State → Tested → Bool → State
+stateOf s t ends = cond (t .on) (diagramOf s (t .kind) ends) Init
+
+-- "INIT, answer the Local Fault vector .. State E answers the error vector, the others the decoded block."
+unfoldable pub answerIn : State → List ℕ → List ℕ
+answerIn Init decoded = localFaultVector
+answerIn Error decoded = errorVector
+answerIn Control decoded = decoded
+answerIn Data decoded = decoded
+answerIn Terminate decoded = decoded
+
+-- the vectors of the tested blocks, from a state of the diagram: "one for each tested block"
+unfoldable pub answers : State → List Tested → List (List ℕ)
+answers s [] = []
+answers s (t ∷ ts) =
+    let s′ = stateOf s t (ends ts) in
+    answerIn s′ (t .vector) ∷ answers s′ ts
+
+-- how many of the tested blocks slipped
+unfoldable pub slipsIn : List Tested → ℕ
+slipsIn [] = 0
+slipsIn (t ∷ ts) = cond (t .slipped) 1 0 + slipsIn ts
+
+-- ---- a fresh receiver over a whole line
+
+unfoldable pub runOf : List ℕ → Run
+runOf line = run (at linkFresh) (lineBits line)
+
+-- its vectors, and their bytes
+unfoldable pub vectorsOf : List ℕ → List (List ℕ)
+vectorsOf line = answers Init (runOf line .tested)
+
+unfoldable pub receivedVectors : List ℕ → List ℕ
+receivedVectors line = flatten (vectorsOf line)

@@ -1,0 +1,88 @@
+// The vector of a tested block, once the next block is known.
+use crate::Held;
+use decoding::Vector;
+use diagrams::State;
+ghost use mathlib.Core.Path.{_≡_};
+ghost use mathlib.Core.Bool.{cond};
+ghost use mathlib.Core.List.{_++_};
+ghost use Prim.Native.Nat.{_+_, _≤_};
+ghost use lib.ListN.{length, take, drop};
+ghost use Rattle.decoding.specs.Vector.{vectorBytes};
+ghost use Rattle.receiving.specs.Receive.{letsEnd, stateOf, answerIn};
+ghost use Rattle.receiving.specs.Loop.{testedIn, heldState, heldBytes};
+
+// Whether the block before may end its frame: this one was tested in lock and not high, and is S or C.
+pub fn lets_end(next: Held) -> bool
+    ensures { λ r. ⌜ r ≡ letsEnd (testedIn next) ⌝ }
+{
+    let on = next.on;
+    let kind = next.kind;
+    if on {
+        return diagrams::may_follow(kind);
+    }
+    false
+}
+
+// The receive diagram's state after a block.
+fn state_step(s: State, h: Held, ends: bool) -> State
+    ensures { λ r. ⌜ r ≡ stateOf s (testedIn h) ends ⌝ }
+{
+    let on = h.on;
+    let kind = h.kind;
+    if on {
+        return diagrams::diagram_step(s, kind, ends);
+    }
+    State::Init
+}
+
+// The Local Fault vector in INIT, the error vector in E, else the decoded block.
+fn answer_in(s: State, v: Vector) -> Vector
+    ensures { λ r. ⌜ vectorBytes r ≡ answerIn s (vectorBytes v) ⌝ }
+{
+    match s {
+        State::Init => Vector {
+            c0: 0x01,
+            d0: 0x0100_009c,
+            c1: 0x01,
+            d1: 0x0100_009c,
+        },
+        State::Error => Vector {
+            c0: 0x0f,
+            d0: 0xfefe_fefe,
+            c1: 0x0f,
+            d1: 0xfefe_fefe,
+        },
+        State::Control => v,
+        State::Data => v,
+        State::Terminate => v,
+    }
+}
+
+// The diagram's state, and where the room goes on.
+pub struct Answered {
+    pub state: State,
+    pub at: usize,
+}
+
+// The block held, if there is one, takes the diagram's step and gives its vector.
+pub fn settle_held(
+    room: &mut [u8],
+    at: usize,
+    have: bool,
+    s: State,
+    h: Held,
+    ends: bool,
+) -> Answered
+    requires { ⌜ at + length (heldBytes have s h ends) ≤ length (now room) ⌝ }
+    ensures { λ r. ⌜ (r .state ≡ heldState have s h ends) × (r .at ≡ at + length (heldBytes have s h ends)) × (now (room .exit) ≡ take at (now (room .entry)) ++ (heldBytes have s h ends ++ drop (at + length (heldBytes have s h ends)) (now (room .entry)))) ⌝ }
+{
+    if have {
+        let state = state_step(s, h, ends);
+        vectors::put_vector(room, at, answer_in(state, h.vector));
+        return Answered {
+            state: state,
+            at: at + 10,
+        };
+    }
+    Answered { state: s, at: at }
+}

@@ -1,0 +1,225 @@
+// Receiving a line: document 01, 'Diagrams' (Lock, Error rate, Receive), 'Scrambler' and 'Vectors, words and line bits'.
+use block::Kind;
+use carrying::Carried;
+use carrying::nothing;
+use carrying::take_at;
+use decoding::Vector;
+use diagrams::Lock;
+use diagrams::Rate;
+use diagrams::State;
+use refusals::Refusal;
+ghost use mathlib.Core.Path.{_≡_};
+ghost use mathlib.Core.Bool.{cond};
+ghost use Prim.Native.Nat.{_*_, _/_, _≤_, _<_};
+ghost use lib.ListN.{length};
+ghost use Rattle.tables.specs.Tables.{tables, types};
+ghost use Rattle.carrying.specs.Carrying.{Sound};
+ghost use Rattle.receiving.specs.Answer.{answerOf, receiveAnswer, receiveRoom};
+ghost use Rattle.receiving.specs.Ranges.{InRange};
+ghost use Rattle.receiving.specs.Loop.{Under, Turns, Ends, Fresh, written};
+
+// testing.rt: one tested block
+mod testing;
+// answering.rt: the vector of a block, once the next is known
+mod answering;
+
+// What each tested block updates: lock, error rate, and the last 58 payload bits of the line, the oldest at bit 0.
+pub struct Link {
+    pub lock: Lock,
+    pub rate: Rate,
+    pub history: u64,
+}
+
+// What receiving returns.
+pub struct Receiving {
+    pub tested: u64,
+    pub slips: u64,
+    pub locked: bool,
+    pub high: bool,
+    pub vectors: u64,
+}
+
+pub enum Received {
+    Done(Receiving),
+    Refused(Refusal, usize),
+}
+
+// A tested block: whether the receiver was then locked and not high, whether it slipped, its kind and its decoded vector.
+pub struct Held {
+    pub on: bool,
+    pub slipped: bool,
+    pub kind: Kind,
+    pub vector: Vector,
+}
+
+// A receiver between two line bits: whether the next bit is to be skipped, the bits since the last tested block, the link, the
+// state of the receive diagram, and the block tested last, if there is one: its vector waits for a look at the next block.
+pub struct Receiver {
+    pub skip: bool,
+    pub carried: Carried,
+    pub link: Link,
+    pub state: State,
+    pub have: bool,
+    pub held: Held,
+}
+
+// How far a receiver has come: the next line bit, the next byte of the room, and what it has counted.
+pub struct Progress {
+    pub receiver: Receiver,
+    pub pos: usize,
+    pub at: usize,
+    pub tested: u64,
+    pub slips: u64,
+}
+
+// One turn: a whole block of the line, or one bit. A block that is full is tested, and the one held before it is answered.
+fn turn(t: &[u16; 3170], y: &[u8; 256], line: &[u8], room: &mut [u8], p: Progress) -> Progress
+    requires { ⌜ ((now t ≡ tables) × (now y ≡ types)) × (length (now line) ≤ 825000) × Under (now line) (now room) p × (p .pos < 8 * length (now line)) ⌝ }
+    ensures { λ r. ⌜ Turns (now (line .entry)) (now (room .entry)) (now (room .exit)) p r ⌝ }
+{
+    let r = p.receiver;
+    let pos = p.pos;
+    let at = p.at;
+    let taken = take_at(line, pos, r.skip, r.carried);
+    let carried = taken.carried;
+    let link = r.link;
+    let state = r.state;
+    let held = r.held;
+    if taken.full {
+        let block = testing::test_block(t, y, link, taken.header, taken.payload);
+        let link = block.link;
+        let next = block.held;
+        let ends = answering::lets_end(next);
+        let settled = answering::settle_held(room, at, r.have, state, held, ends);
+        let state = settled.state;
+        let slipped = next.slipped;
+        return Progress {
+            receiver: Receiver {
+                skip: slipped,
+                carried: carried,
+                link: link,
+                state: state,
+                have: true,
+                held: next,
+            },
+            pos: taken.next,
+            at: settled.at,
+            tested: p.tested + 1,
+            slips: p.slips + testing::slip_count(slipped),
+        };
+    }
+    Progress {
+        receiver: Receiver {
+            skip: false,
+            carried: carried,
+            link: link,
+            state: state,
+            have: r.have,
+            held: held,
+        },
+        pos: taken.next,
+        at: at,
+        tested: p.tested,
+        slips: p.slips,
+    }
+}
+
+// A receiver over all bits of the line, from a receiver as it stands: the vectors go to the room, but for that of the last block,
+// which is held.
+fn receive_bits(
+    t: &[u16; 3170],
+    y: &[u8; 256],
+    line: &[u8],
+    room: &mut [u8],
+    start: Receiver,
+) -> Progress
+    requires { ⌜ ((now t ≡ tables) × (now y ≡ types)) × (length (now line) ≤ 825000) × InRange (start .link) × Sound (start .carried) × (length (written start (now line)) ≤ length (now room)) ⌝ }
+    ensures { λ p. ⌜ Ends (now (line .entry)) (now (room .entry)) (now (room .exit)) start p ⌝ }
+{
+    let bits = line.len() * 8;
+    let mut p = Progress {
+        receiver: start,
+        pos: 0,
+        at: 0,
+        tested: 0,
+        slips: 0,
+    };
+    while p.pos < bits {
+        p = turn(t, y, line, room, p);
+    }
+    p
+}
+
+// A receiver before the first bit.
+fn fresh() -> Receiver
+    ensures { λ r. ⌜ Fresh r ⌝ }
+{
+    Receiver {
+        skip: false,
+        carried: nothing(),
+        link: Link {
+            lock: Lock {
+                tested: 0,
+                invalid: 0,
+                locked: false,
+            },
+            rate: Rate {
+                blocks: 0,
+                invalid: 0,
+                high: false,
+            },
+            history: 0,
+        },
+        state: State::Init,
+        have: false,
+        held: Held {
+            on: false,
+            slipped: false,
+            kind: Kind::E,
+            vector: Vector {
+                c0: 0,
+                d0: 0,
+                c1: 0,
+                d1: 0,
+            },
+        },
+    }
+}
+
+// Receiving with lent tables, those of the crate tables.
+fn receive_with(t: &[u16; 3170], y: &[u8; 256], line: &[u8], room: &mut [u8]) -> Received
+    requires { ⌜ (now t ≡ tables) × (now y ≡ types) ⌝ }
+    ensures { λ r. ⌜ (answerOf r ≡ receiveAnswer (now (line .entry)) (length (now (room .entry)))) × (now (room .exit) ≡ receiveRoom (now (line .entry)) (now (room .entry))) ⌝ }
+{
+    if 825000 < line.len() {
+        return Received::Refused(Refusal::TooMuch, 0);
+    }
+    if room.len() < 10 * (8 * line.len() / 66) {
+        return Received::Refused(Refusal::Room, 0);
+    }
+    let p = receive_bits(t, y, line, room, fresh());
+    let r = p.receiver;
+    let at = p.at;
+    let link = r.link;
+    let lock = link.lock;
+    let rate = link.rate;
+    let state = r.state;
+    let held = r.held;
+    answering::settle_held(room, at, r.have, state, held, false);
+    Received::Done(Receiving {
+        tested: p.tested,
+        slips: p.slips,
+        locked: lock.locked,
+        high: rate.high,
+        vectors: p.tested,
+    })
+}
+
+// Receiving a line: its vectors go to the room, from its start.
+pub fn receive(line: &[u8], room: &mut [u8]) -> Received
+    ensures { λ r. ⌜ (answerOf r ≡ receiveAnswer (now (line .entry)) (length (now (room .entry)))) × (now (room .exit) ≡ receiveRoom (now (line .entry)) (now (room .entry))) ⌝ }
+{
+    let t = tables::block_tables();
+    let y = tables::type_table();
+    receive_with(&t, &y, line, room)
+}

@@ -1,0 +1,35 @@
+-- What the whole list gives, as the definitions say it. Assumes nothing.
+use Prim.Native.Nat.{ℕ, _+_, _*_, _/_}
+use mathlib.Core.Path.{_≡_, ap, _∙_}
+use mathlib.Core.List.{List, _++_}
+use native.Mathlib.Nat.{zero-add}
+use lib.ListN.{length, drop}
+use Rattle.bits.proofs.Laws.{length-cut}
+use Rattle.diagrams.specs.Diagram.{stateNumber}
+use Rattle.diagrams.specs.declared.State.the-variants.{Init}
+use Rattle.scrambler.specs.Scrambler.{mirror}
+use Rattle.sending.specs.Send.{vectorsOf, blocksFor, sentLine, stateAfter, replaced, historyOver}
+use Rattle.sending.specs.Answer.{sent, sentFor}
+use Rattle.sending.specs.declared.Sender.{Sender}
+use Rattle.sending.specs.Sends.{Fills}
+
+length-line : (bytes : List ℕ) (start : ℕ) → length (sentLine bytes start) ≡ 33 * (length bytes / 40)
+unfolding sentLine
+length-line bytes start = length-cut 8 (33 * (length bytes / 40)) _
+
+-- from INIT and the start state
+module _ (bytes before after : List ℕ) (start h : ℕ) (r : Sender) (e : h ≡ mirror start)
+    (fills : Fills (record { diagram = Init; history = h; replaced = 0 }) bytes before after r) where
+  pub answered : (state diagram : ℕ) → state ≡ mirror (r .history) → diagram ≡ stateNumber (r .diagram)
+      → sent state diagram (r .replaced) ≡ sentFor bytes start
+  unfolding sentFor blocksFor
+  answered state diagram p q =
+      let s = fills .sends in
+      let a : state ≡ mirror (historyOver (mirror start) (blocksFor bytes)) = p ∙ ap mirror (s .history ∙ ap (λ (x : ℕ). historyOver x (blocksFor bytes)) e) in
+      let b : diagram ≡ stateNumber (stateAfter Init (vectorsOf bytes)) = q ∙ ap stateNumber (s .diagram) in
+      let c : r .replaced ≡ replaced Init (vectorsOf bytes) = s .count ∙ zero-add _ in
+      cc
+
+  pub placed : after ≡ sentLine bytes start ++ drop (length (sentLine bytes start)) before
+  unfolding sentLine blocksFor
+  placed = rw (length-line bytes start, ← e) (fills .room)

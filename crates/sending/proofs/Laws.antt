@@ -1,0 +1,176 @@
+-- Laws of sending over plain lists. Assumes nothing.
+use Prim.Native.Nat.{ℕ, zero, suc, _+_, _*_, _^_, _≤_, _<_}
+use mathlib.Core.Path.{_≡_, refl, sym, ap, ap₂, _∙_, subst}
+use mathlib.Core.List.{List, [], _∷_, _++_}
+use native.Mathlib.Nat.{zero-add, add-zero, add-assoc}
+use native.Mathlib.Omega.{arith}
+use lib.ListN.{length, getD, take, drop, length-drop, List·getD-eq-default}
+use lib.Seq.{drop-drop, length-take-le, getD-take, getD-drop}
+use Rattle.bits.proofs.Laws.{by-lt}
+use Rattle.diagrams.specs.Diagram.{transmitOf}
+use Rattle.diagrams.specs.declared.State.{State}
+use Rattle.diagrams.specs.declared.State.the-variants.{Init, Control, Data, Terminate, Error}
+use Rattle.scrambler.specs.Scrambler.{historyAfter}
+use Rattle.scrambler.proofs.Laws.{historyAfter-lt}
+use Rattle.line.specs.Word.{word}
+use Rattle.line.specs.declared.Block.{Block}
+use Rattle.block.specs.Block.{twoWords, vectorKind}
+use Rattle.encoding.specs.Parts.{lanesAt}
+use Rattle.encoding.proofs.Answers.{read-words}
+use Rattle.sending.specs.Send.{vectorsIn, blockIn, replacedIn, scrambledBlock, stateAfter, replaced, sentBlocks, lineWords, historyOver}
+use Rattle.sending.specs.declared.Sender.{Sender}
+use Rattle.sending.specs.Sends.{Sends}
+
+-- ---- a list of vectors in two parts
+
+pub vectors-add : (j k : ℕ) (bytes : List ℕ) → vectorsIn (j + k) bytes ≡ vectorsIn j bytes ++ vectorsIn k (drop (10 * j) bytes)
+unfolding vectorsIn
+vectors-add zero k bytes = ap (λ (n : ℕ). vectorsIn n bytes) (zero-add k)
+vectors-add (suc j) k bytes =
+    let e : suc j + k ≡ suc (j + k) = omega arith in
+    let d : 10 + 10 * j ≡ 10 * suc j = omega arith in
+    ap (λ (n : ℕ). vectorsIn n bytes) e
+    ∙ ap (λ (vs : List (List ℕ)). take 10 bytes ∷ vs)
+    (vectors-add j k (drop 10 bytes)
+    ∙ ap (λ (l : List ℕ). vectorsIn j (drop 10 bytes) ++ vectorsIn k l) (drop-drop (10 * j) 10 bytes ∙ ap (λ (n : ℕ). drop n bytes) d))
+
+pub vectors-more : (k : ℕ) (bytes : List ℕ) → vectorsIn (k + 1) bytes ≡ vectorsIn k bytes ++ (take 10 (drop (10 * k) bytes) ∷ [])
+unfolding vectorsIn
+vectors-more k bytes = vectors-add k 1 bytes
+
+pub length-vectors : (k : ℕ) (bytes : List ℕ) → length (vectorsIn k bytes) ≡ k
+unfolding vectorsIn
+length-vectors zero bytes = refl
+length-vectors (suc k) bytes = ap suc (length-vectors k (drop 10 bytes))
+
+state-append : (s : State) (xs ys : List (List ℕ)) → stateAfter s (xs ++ ys) ≡ stateAfter (stateAfter s xs) ys
+unfolding stateAfter
+state-append s [] ys = refl
+state-append s (v ∷ xs) ys = state-append (transmitOf s (vectorKind v)) xs ys
+
+replaced-append : (s : State) (xs ys : List (List ℕ)) → replaced s (xs ++ ys) ≡ replaced s xs + replaced (stateAfter s xs) ys
+unfolding stateAfter replaced
+replaced-append s [] ys = sym (zero-add (replaced s ys))
+replaced-append s (v ∷ xs) ys =
+    let t = transmitOf s (vectorKind v) in
+    ap (λ (n : ℕ). replacedIn t + n) (replaced-append t xs ys)
+    ∙ sym (add-assoc (replacedIn t) (replaced t xs) (replaced (stateAfter t xs) ys))
+
+blocks-append : (s : State) (xs ys : List (List ℕ)) → sentBlocks s (xs ++ ys) ≡ sentBlocks s xs ++ sentBlocks (stateAfter s xs) ys
+unfolding stateAfter sentBlocks
+blocks-append s [] ys = refl
+blocks-append s (v ∷ xs) ys =
+    let t = transmitOf s (vectorKind v) in
+    ap (λ (bs : List Block). blockIn t v ∷ bs) (blocks-append t xs ys)
+
+words-append : (h : ℕ) (xs ys : List Block) → lineWords h (xs ++ ys) ≡ lineWords h xs ++ lineWords (historyOver h xs) ys
+unfolding lineWords historyOver
+words-append h [] ys = refl
+words-append h (b ∷ xs) ys =
+    ap (λ (ws : List ℕ). word (scrambledBlock b h) ∷ ws) (words-append (historyAfter (b .payload) h) xs ys)
+
+history-append : (h : ℕ) (xs ys : List Block) → historyOver h (xs ++ ys) ≡ historyOver (historyOver h xs) ys
+unfolding historyOver
+history-append h [] ys = refl
+history-append h (b ∷ xs) ys = history-append (historyAfter (b .payload) h) xs ys
+
+-- ---- how many, and how large
+
+replacedIn-le : (s : State) → replacedIn s ≤ 1
+replacedIn-le Init = omega arith
+replacedIn-le Control = omega arith
+replacedIn-le Data = omega arith
+replacedIn-le Terminate = omega arith
+replacedIn-le Error = omega arith
+
+replaced-le : (s : State) (vs : List (List ℕ)) → replaced s vs ≤ length vs
+unfolding replaced
+replaced-le s [] = omega arith
+replaced-le s (v ∷ vs) =
+    let t = transmitOf s (vectorKind v) in
+    omega (arith, replacedIn-le t, replaced-le t vs)
+
+pub length-blocks : (s : State) (vs : List (List ℕ)) → length (sentBlocks s vs) ≡ length vs
+unfolding sentBlocks
+length-blocks s [] = refl
+length-blocks s (v ∷ vs) = ap suc (length-blocks (transmitOf s (vectorKind v)) vs)
+
+length-words : (h : ℕ) (bs : List Block) → length (lineWords h bs) ≡ length bs
+unfolding lineWords
+length-words h [] = refl
+length-words h (b ∷ bs) = ap suc (length-words (historyAfter (b .payload) h) bs)
+
+history-lt : (h : ℕ) (bs : List Block) → h < 2 ^ 58 → historyOver h bs < 2 ^ 58
+unfolding historyOver
+history-lt h [] l = l
+history-lt h (b ∷ bs) l = history-lt (historyAfter (b .payload) h) bs (historyAfter-lt (b .payload) h l)
+
+-- ---- sending in two parts
+
+pub sends-none : (s : Sender) → Sends s [] [] s
+unfolding stateAfter historyOver sentBlocks replaced lineWords
+sends-none s = record { diagram = refl; history = refl; count = sym (add-zero (s .replaced)); line = refl }
+
+pub sends-join : (s m r : Sender) (xs ys : List (List ℕ)) (a b : List ℕ) → Sends s xs a m → Sends m ys b r → Sends s (xs ++ ys) (a ++ b) r
+sends-join s m r xs ys a b p q =
+    let t = s .diagram in
+    let h = s .history in
+    let bs = sentBlocks t xs in
+    record {
+      diagram = q .diagram ∙ ap (λ (u : State). stateAfter u ys) (p .diagram) ∙ sym (state-append t xs ys);
+      history =
+          q .history
+          ∙ ap₂ (λ (n : ℕ) (u : State). historyOver n (sentBlocks u ys)) (p .history) (p .diagram)
+          ∙ sym (history-append h bs (sentBlocks (stateAfter t xs) ys))
+          ∙ ap (historyOver h) (sym (blocks-append t xs ys));
+      count =
+          q .count
+          ∙ ap₂ (λ (n : ℕ) (u : State). n + replaced u ys) (p .count) (p .diagram)
+          ∙ add-assoc (s .replaced) (replaced t xs) (replaced (stateAfter t xs) ys)
+          ∙ ap (λ (n : ℕ). s .replaced + n) (sym (replaced-append t xs ys));
+      line =
+          ap₂ _++_ (p .line) (q .line ∙ ap₂ (λ (n : ℕ) (u : State). lineWords n (sentBlocks u ys)) (p .history) (p .diagram))
+          ∙ sym (words-append h bs (sentBlocks (stateAfter t xs) ys))
+          ∙ ap (lineWords h) (sym (blocks-append t xs ys));
+    }
+
+-- what follows of the count, the history and the words
+pub sends-few : (s r : Sender) (vs : List (List ℕ)) (ws : List ℕ) → Sends s vs ws r → r .replaced ≤ s .replaced + length vs
+sends-few s r vs ws p = omega (arith, p .count, replaced-le (s .diagram) vs)
+
+pub sends-history : (s r : Sender) (vs : List (List ℕ)) (ws : List ℕ) → Sends s vs ws r → s .history < 2 ^ 58 → r .history < 2 ^ 58
+sends-history s r vs ws p l = subst (λ (h : ℕ). h < 2 ^ 58) (sym (p .history)) (history-lt (s .history) (sentBlocks (s .diagram) vs) l)
+
+pub sends-length : (s r : Sender) (vs : List (List ℕ)) (ws : List ℕ) → Sends s vs ws r → length ws ≡ length vs
+sends-length s r vs ws p = ap length (p .line) ∙ length-words (s .history) (sentBlocks (s .diagram) vs) ∙ length-blocks (s .diagram) vs
+
+-- ---- the ten bytes of a vector, as they are read
+
+pub vector-read : (bytes : List ℕ) (at d0 d1 : ℕ) → ((n : ℕ) → getD bytes n 0 < 256) → at + 10 ≤ length bytes
+    → d0 ≡ lanesAt bytes (at + 1) → d1 ≡ lanesAt bytes (at + 6)
+    → twoWords (getD bytes at 0) d0 (getD bytes (at + 5) 0) d1 ≡ take 10 (drop at bytes)
+vector-read bytes at d0 d1 b l e f =
+    let v = take 10 (drop at bytes) in
+    let n : length v ≡ 10 = length-take-le 10 (drop at bytes) (omega (arith, length-drop at bytes)) in
+    let there : (i : ℕ) → i < 10 → getD v i 0 ≡ getD bytes (at + i) 0 = λ i m. getD-take 10 (drop at bytes) i 0 m ∙ getD-drop at bytes i 0 in
+    let small : (i : ℕ) → getD v i 0 < 256 =
+    λ i. by-lt i 10 (λ m. omega (arith, there i m, b (at + i))) (λ m. omega (arith, List·getD-eq-default v 0 {n = i} (omega arith))) in
+    let r : twoWords (getD v 0 0) (lanesAt v 1) (getD v 5 0) (lanesAt v 6) ≡ v = read-words v n small in
+    let g0 : getD v 0 0 ≡ getD bytes (at + 0) 0 = there 0 (omega arith) in
+    let g1 : getD v 1 0 ≡ getD bytes (at + 1) 0 = there 1 (omega arith) in
+    let g2 : getD v 2 0 ≡ getD bytes (at + 2) 0 = there 2 (omega arith) in
+    let g3 : getD v 3 0 ≡ getD bytes (at + 3) 0 = there 3 (omega arith) in
+    let g4 : getD v 4 0 ≡ getD bytes (at + 4) 0 = there 4 (omega arith) in
+    let g5 : getD v 5 0 ≡ getD bytes (at + 5) 0 = there 5 (omega arith) in
+    let g6 : getD v 6 0 ≡ getD bytes (at + 6) 0 = there 6 (omega arith) in
+    let g7 : getD v 7 0 ≡ getD bytes (at + 7) 0 = there 7 (omega arith) in
+    let g8 : getD v 8 0 ≡ getD bytes (at + 8) 0 = there 8 (omega arith) in
+    let g9 : getD v 9 0 ≡ getD bytes (at + 9) 0 = there 9 (omega arith) in
+    let z : at + 0 ≡ at = omega arith in
+    let i1 : at + 1 + 1 ≡ at + 2 = omega arith in
+    let i2 : at + 1 + 2 ≡ at + 3 = omega arith in
+    let i3 : at + 1 + 3 ≡ at + 4 = omega arith in
+    let j1 : at + 6 + 1 ≡ at + 7 = omega arith in
+    let j2 : at + 6 + 2 ≡ at + 8 = omega arith in
+    let j3 : at + 6 + 3 ≡ at + 9 = omega arith in
+    cc

@@ -1,0 +1,52 @@
+-- `sending::send_all` meets its contract: what its groups come to is what the definitions say from INIT and the start state. Assumes nothing.
+use Prim.Native.Nat.{_<_, _^_}
+use mathlib.Core.Path.{refl, sym, subst}
+use Prim.Native.Nat.{ℕ}
+use denote.Ref.{now}
+use Rattle.scrambler.proofs.Laws.{mirror-lt}
+use Rattle.sending.proofs.Answers.{answered, placed}
+use borrow.Author.Needs.{needs}
+use Rattle.sending.proofs.send_all.Statement.{statement}
+use Rattle.sending.proofs.send_all.Tie as tie
+
+mirrored-requires : tie.Need-mirrored-requires
+mirrored-requires c κs = search needs
+
+block-tables-requires : tie.Need-block-tables-requires
+block-tables-requires c κs = search needs
+
+send-groups-requires : tie.Need-send-groups-requires
+send-groups-requires c κs =
+    (c .before .before .block-tables .ensures, c .before .before .before .before .before .before .pre .0, c .before .before .before .before .before .before .pre .1, c .before .before .before .before .before .before .pre .2, subst (λ (h : ℕ). h < 2 ^ 58) (sym (c .before .before .before .mirrored .ensures)) (mirror-lt (c .before .before .before .before .before .before .args .start)), refl, c .before .before .before .before .before .before .pre .3)
+
+mirrored-requires-2 : tie.Need-mirrored-requires-2
+mirrored-requires-2 c κs = search needs
+
+state-number-requires : tie.Need-state-number-requires
+state-number-requires c κs = search needs
+
+same-length : tie.Need-same-length
+same-length c = search needs
+
+returns : tie.Need-returns
+returns c =
+    let b = now (c .before .before .before .before .before .before .before .before .before .before .before .args .vectors) in
+    let l = now (c .before .before .before .before .before .before .before .before .before .before .before .args .line) in
+    let e = c .before .before .before .before .before .before .before .before .mirrored .ensures in
+    let r = c .before .before .before .before .send-groups .result in
+    let f = c .before .before .before .before .send-groups .ensures in (
+      answered b l _ (c .before .before .before .before .before .before .before .before .before .before .before .args .start) (c .before .before .before .before .before .before .before .before .mirrored .result) r e f (c .before .mirrored2 .result) (c .state-number .result) (c .before .mirrored2 .ensures) (c .state-number .ensures .0),
+      placed b l _ (c .before .before .before .before .before .before .before .before .before .before .before .args .start) (c .before .before .before .before .before .before .before .before .mirrored .result) r e f,
+    )
+
+pub send-all-spec : {M : Type 1} → statement M
+send-all-spec =
+    tie.close
+    (tie.spec
+    mirrored-requires
+    block-tables-requires
+    send-groups-requires
+    mirrored-requires-2
+    state-number-requires
+    same-length
+    returns)
