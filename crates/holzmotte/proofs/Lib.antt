@@ -1,0 +1,4 @@
+pub mod Laws
+pub mod Sends
+pub mod Receives
+pub mod Unique

@@ -1,0 +1,113 @@
+-- Receiving through C, case by case. Assumes nothing.
+use Prim.Native.Nat.{ℕ, _+_, _*_, _/_, _≤_, _<_}
+use mathlib.Core.Path.{_≡_, refl, sym, ap, ap₂, _∙_}
+use mathlib.Core.Bool.{Bool, true, false}
+use mathlib.Core.List.{List, [], _∷_, _++_}
+use native.Mathlib.Omega.{arith}
+use lib.ListN.{length, drop}
+use lib.Dec.{ltb}
+use borrow.Author.Tests.{lt-ltb}
+use Rattle.refusals.specs.First.{check, Verdict, accepted, refused, first, byVerdict}
+use Rattle.receiving.specs.Answer.{ReceiveAnswer, received, receiveChecks, receivedFor, receiveAnswer, receiveRoom}
+use Rattle.receiving.specs.Answer as Answer
+use Rattle.holzmotte.specs.Boundary.{resultOf, after, summaryBytes, flagWord, tooShort, receiveVerdict, receiveWords, receiveResult, receiveVectors, receiveSummary}
+use Rattle.holzmotte.proofs.Laws.{long-first, shortOf, kept, summary-short, summary-long}
+
+-- an answer tells the verdict
+abbrev pub verdictOf : ReceiveAnswer → Verdict
+verdictOf (received tested slips locked high vectors) = accepted
+verdictOf (Answer.refused number place) = refused number place
+
+told : (v : Verdict) (line : List ℕ) → verdictOf (byVerdict v (receivedFor line) Answer.refused) ≡ v
+unfolding receivedFor
+told accepted line = refl
+told (refused n p) line = refl
+
+verdict-told : (line : List ℕ) (room : ℕ) → verdictOf (receiveAnswer line room) ≡ first (receiveChecks (length line) room)
+unfolding receiveAnswer
+verdict-told line room = told (first (receiveChecks (length line) room)) line
+
+-- a refusal's place is 0
+placed : (a b : Bool) (n p : ℕ) → first (check 1 a ∷ check 4 b ∷ []) ≡ refused n p → p ≡ 0
+unfolding first
+placed true b n p e = cc
+placed false true n p e = cc
+placed false false n p e = cc
+
+place-zero : (line room n p : ℕ) → first (receiveChecks line room) ≡ refused n p → p ≡ 0
+unfolding receiveChecks
+place-zero line room n p e = placed (ltb 825000 line) (ltb room (10 * (8 * line / 66))) n p e
+
+-- a summary too short: 1 comes before it, and it before all else
+refuses : (a b : Bool) {A : Type 0} (success before : A)
+    → byVerdict (first (check 1 a ∷ check 4 true ∷ check 4 b ∷ [])) success (λ n p. before) ≡ before
+unfolding first
+refuses true b s r = refl
+refuses false b s r = refl
+
+shortens : (a b b′ : Bool)
+    → resultOf (first (check 1 a ∷ check 4 true ∷ check 4 b ∷ [])) ≡ shortOf (first (check 1 a ∷ check 4 b′ ∷ []))
+unfolding first
+shortens true b b′ = refl
+shortens false b true = refl
+shortens false b false = refl
+
+module _ (line room summary : ℕ) (short : summary < 8 * 5) where
+  short-result : receiveResult line room summary ≡ shortOf (first (receiveChecks line 0))
+  unfolding receiveResult receiveVerdict receiveChecks
+  short-result =
+      rw (lt-ltb summary (8 * 5) short) (shortens (ltb 825000 line) (ltb room (10 * (8 * line / 66))) (ltb 0 (10 * (8 * line / 66))))
+
+  short-keeps : {A : Type 0} (success before : A) → byVerdict (receiveVerdict line room summary) success (λ n p. before) ≡ before
+  unfolding receiveVerdict receiveChecks
+  short-keeps success before =
+      rw (lt-ltb summary (8 * 5) short) (refuses (ltb 825000 line) (ltb room (10 * (8 * line / 66))) success before)
+
+pub short-answer : (line : List ℕ) (room summary : ℕ) (answer : ReceiveAnswer) → answer ≡ receiveAnswer line 0 → summary < 8 * 5
+    → shortOf (verdictOf answer) ≡ receiveResult (length line) room summary
+short-answer line room summary answer e l =
+    ap shortOf (ap verdictOf e ∙ verdict-told line 0) ∙ sym (short-result (length line) room summary l)
+
+-- a refusal's place fits a result
+pub small : (line : List ℕ) (room number place : ℕ) → Answer.refused number place ≡ receiveAnswer line room → place ≤ 1000000
+small line room number place e =
+    let z : place ≡ 0 = place-zero (length line) room number place (sym (ap verdictOf e ∙ verdict-told line room)) in
+    omega arith
+
+-- with a summary too short
+pub shortly : (line room summary : List ℕ) (result : ℕ) → length summary < 8 * 5
+    → result ≡ receiveResult (length line) (length room) (length summary)
+    → (result ≡ receiveResult (length line) (length room) (length summary))
+    × (room ≡ receiveVectors line room (length summary))
+    × (summary ≡ receiveSummary line (length room) summary)
+unfolding receiveVectors receiveSummary
+shortly line room summary result l e = (
+  e,
+  sym (short-keeps (length line) (length room) (length summary) l (receiveRoom line room) room),
+  sym (summary-short 5 (receiveWords (receiveAnswer line (length room))) summary l),
+)
+
+-- with a summary that is long enough
+pub answered : (line room summary room′ summary′ : List ℕ) (answer : ReceiveAnswer) → 8 * 5 ≤ length summary
+    → answer ≡ receiveAnswer line (length room) → room′ ≡ receiveRoom line room
+    → summary′ ≡ summaryBytes (receiveWords answer) ++ drop 40 summary
+    → (resultOf (verdictOf answer) ≡ receiveResult (length line) (length room) (length summary))
+    × (room′ ≡ receiveVectors line room (length summary))
+    × (summary′ ≡ receiveSummary line (length room) summary)
+unfolding receiveResult receiveVerdict receiveVectors receiveSummary receiveRoom
+answered line room summary room′ summary′ answer l e r s =
+    let cs = receiveChecks (length line) (length room) in
+    let v : first (after 1 (check 4 (tooShort 5 (length summary))) cs) ≡ first cs = long-first 1 5 (length summary) cs l in
+    let t : verdictOf answer ≡ first cs = ap verdictOf e ∙ verdict-told line (length room) in (
+      ap resultOf (t ∙ sym v),
+      r ∙ rw v (sym (kept (first cs) _ room)),
+      s ∙ ap (λ (a : ReceiveAnswer). summaryBytes (receiveWords a) ++ drop 40 summary) e
+          ∙ sym (summary-long 5 (receiveWords (receiveAnswer line (length room))) summary l),
+    )
+
+-- the words, with the flags as they were made
+pub flagged : (tested slips l h vectors : ℕ) (locked high : Bool) (rest summary : List ℕ) → l ≡ flagWord locked → h ≡ flagWord high
+    → summary ≡ summaryBytes (tested ∷ slips ∷ l ∷ h ∷ vectors ∷ []) ++ rest
+    → summary ≡ summaryBytes (receiveWords (received tested slips locked high vectors)) ++ rest
+flagged tested slips l h vectors locked high rest summary e f s =
+    s ∙ ap₂ (λ (x y : ℕ). summaryBytes (tested ∷ slips ∷ x ∷ y ∷ vectors ∷ []) ++ rest) e f

@@ -1,0 +1,82 @@
+-- `holzmotte::holzmotte_send` meets its contract: a summary too short, an answer, a refusal. Assumes nothing.
+use mathlib.Core.Path.{sym, ap, _∙_}
+use lib.ListN.{length}
+use denote.Ref.{now}
+use Rattle.sending.specs.Answer.{answerOf}
+use Rattle.holzmotte.proofs.Sends.{small, shortly, answered}
+use borrow.Author.Needs.{needs}
+use Rattle.holzmotte.proofs.holzmotte_send.Statement.{statement}
+use Rattle.holzmotte.proofs.holzmotte_send.Tie as tie
+
+send-short-requires : tie.Need-send-short-requires
+send-short-requires c κs = search needs
+
+returns : tie.Need-returns
+returns c =
+    let a = c .before .before .before .before .before .args in
+    let s = now (a .summary) in
+    let t = shortly (now (a .vectors)) (now (a .line)) s (a .start) (c .send-short .result) (c .before .if1 .taken) (c .send-short .ensures (length (now (a .line))) (length s) (c .before .if1 .taken)) in
+    (t .0, (t .1, t .2))
+
+send-requires : tie.Need-send-requires
+send-requires c κs = search needs
+
+enum-known-s : tie.Need-enum-known-s
+enum-known-s c = search needs
+
+put-three-requires : tie.Need-put-three-requires
+put-three-requires c κs = search needs
+
+enum-known-why : tie.Need-enum-known-why
+enum-known-why c = search needs
+
+put-three-requires-2 : tie.Need-put-three-requires-2
+put-three-requires-2 c κs = search needs
+
+refusal-requires : tie.Need-refusal-requires
+refusal-requires c κs =
+    let a = c .before .before .before .before .before .before .before .before .before .before .before .before .before .before .before .args in
+    small (now (a .vectors)) (a .start) (length (now (a .line))) _ _ (sym (ap answerOf (c .before .before .before .before .before .why .given .1)) ∙ c .before .before .before .before .before .before .before .before .before .send .ensures .0)
+
+same-length : tie.Need-same-length
+same-length c = search needs
+
+same-length-2 : tie.Need-same-length-2
+same-length-2 c = search needs
+
+returns-2 : tie.Need-returns-2
+returns-2 c =
+    let a = c .before .before .before .before .before .before .before .before .before .before .before .before .before .before .before .args in
+    let t = answered (now (a .vectors)) (now (a .line)) (now (a .summary)) _ _ (a .start) _ (c .before .before .before .before .before .before .before .before .before .before .before .if1 .left) (sym (ap answerOf (c .before .before .before .before .before .s .given .1)) ∙ c .before .before .before .before .before .before .before .before .before .send .ensures .0) (c .before .before .before .before .before .before .before .before .before .send .ensures .1) (c .before .before .put-three .ensures) in
+    (t .0, (t .1, t .2))
+
+same-length-3 : tie.Need-same-length-3
+same-length-3 c = search needs
+
+same-length-4 : tie.Need-same-length-4
+same-length-4 c = search needs
+
+returns-3 : tie.Need-returns-3
+returns-3 c =
+    let a = c .before .before .before .before .before .before .before .before .before .before .before .before .before .before .before .before .args in
+    let t = answered (now (a .vectors)) (now (a .line)) (now (a .summary)) _ _ (a .start) _ (c .before .before .before .before .before .before .before .before .before .before .before .before .if1 .left) (sym (ap answerOf (c .before .before .before .before .before .before .why .given .1)) ∙ c .before .before .before .before .before .before .before .before .before .before .send .ensures .0) (c .before .before .before .before .before .before .before .before .before .before .send .ensures .1) (c .before .before .before .put-three2 .ensures) in
+    (c .refusal .ensures ∙ t .0, (t .1, t .2))
+
+pub holzmotte-send-spec : {M : Type 1} → statement M
+holzmotte-send-spec =
+    tie.close
+    (tie.spec
+    send-short-requires
+    returns
+    send-requires
+    enum-known-s
+    put-three-requires
+    enum-known-why
+    put-three-requires-2
+    refusal-requires
+    same-length
+    same-length-2
+    returns-2
+    same-length-3
+    same-length-4
+    returns-3)

@@ -1,0 +1,117 @@
+/* Holzmotte: the physical coding sublayer of a 10GBASE-R link (IEEE 802.3 Clause 49), from XGMII vectors to line bits and back.
+ *
+ * Two functions, proved to do what the project's definitions say for every input. They allocate nothing, keep nothing between
+ * calls and touch no memory but what is lent to them, so they may be called from any thread.
+ *
+ * Slices. Each buffer is a pointer and, right after it, its length in bytes. For every slice of every call:
+ *   - The caller owns it, before, during and after the call; the library keeps no pointer.
+ *   - The pointer is not NULL, even where the length is 0: pass the address of anything then.
+ *   - All of it is readable memory, and writable where the pointer is not to const; the length is at most PTRDIFF_MAX.
+ *   - A slice that is written (line and summary in sending, vectors and summary in receiving) overlaps no other slice of the call.
+ * Nothing checks these four, and nothing else is asked: no pointer has to be aligned, and every other fault is refused by a number.
+ *
+ * Bytes. A word is five bytes: a control byte (bit i set when lane i carries a control character; bits 4 to 7 zero), then lanes 0
+ * to 3. A vector is two words, ten bytes. Line bit n is bit n mod 8, least significant first, of line byte n / 8. A block is 66
+ * line bits, so four vectors (40 bytes) give 33 line bytes.
+ *
+ * Result. 0 on success, else refusal number + 256 x place: HOLZMOTTE_NUMBER and HOLZMOTTE_PLACE take it apart. Of several refusals
+ * that apply the first is given, in the order that stands at each function. The place is 0 but for refusal 5, where it is the
+ * offset in `vectors` of the first control byte above 15.
+ *
+ * What is written. A success writes exactly the bytes that stand at each function, from the start of the lent slice, and leaves the
+ * rest of the slice as it was. A refusal leaves `line` or `vectors` as it was and writes the summary's bytes as zeros; where the
+ * summary slice is too short for them it stays as it was, whatever the refusal. Later versions may append words to a summary
+ * and never move one.
+ */
+#ifndef HOLZMOTTE_H
+#define HOLZMOTTE_H
+
+#include <stddef.h>
+#include <stdint.h>
+
+#ifdef __cplusplus
+extern "C" {
+#endif
+
+/* Sizes, in bytes. */
+#define HOLZMOTTE_VECTOR_BYTES 10
+#define HOLZMOTTE_GROUP_VECTOR_BYTES 40 /* four vectors .. */
+#define HOLZMOTTE_GROUP_LINE_BYTES 33   /* .. and the four blocks that carry them */
+#define HOLZMOTTE_MAX_VECTOR_BYTES 1000000
+#define HOLZMOTTE_MAX_LINE_BYTES 825000
+#define HOLZMOTTE_SEND_SUMMARY_BYTES 24
+#define HOLZMOTTE_RECEIVE_SUMMARY_BYTES 40
+
+/* The room that sending wants for its line, and receiving for its vectors (also where slips leave fewer vectors than fit). */
+#define HOLZMOTTE_LINE_ROOM(vector_bytes) ((size_t)(vector_bytes) / 40 * 33)
+#define HOLZMOTTE_VECTOR_ROOM(line_bytes) ((size_t)(line_bytes) * 8 / 66 * 10)
+
+/* A start state is below this: 58 bits. */
+#define HOLZMOTTE_START_STATES ((uint64_t)1 << 58)
+
+/* A result's two parts. */
+#define HOLZMOTTE_NUMBER(result) ((int)((result) % 256))
+#define HOLZMOTTE_PLACE(result) ((uint64_t)((result) / 256))
+
+/* The refusal numbers that these functions give. (6, 7 and 8 speak of capture records.) */
+enum holzmotte_refusal {
+    HOLZMOTTE_DONE = 0,
+    HOLZMOTTE_TOO_LONG = 1,    /* more than 1,000,000 vector bytes, or 825,000 line bytes */
+    HOLZMOTTE_RAGGED = 2,      /* vector bytes not a multiple of 40 */
+    HOLZMOTTE_START_STATE = 3, /* start state at or above 2^58 */
+    HOLZMOTTE_NO_ROOM = 4,     /* a lent slice, or the summary's, is too short */
+    HOLZMOTTE_CONTROL_BYTE = 5 /* a control byte above 15; its place is the byte offset of the first */
+};
+
+/* The words of the summaries: 64-bit numbers, least significant byte first, word i at byte 8 * i. */
+enum holzmotte_send_word {
+    HOLZMOTTE_SEND_STATE = 0,   /* the scrambler's end state: the start state for the line that follows */
+    HOLZMOTTE_SEND_DIAGRAM = 1, /* the transmit diagram's end state, an enum holzmotte_diagram */
+    HOLZMOTTE_SEND_REPLACED = 2 /* how many vectors were sent as the error block */
+};
+
+enum holzmotte_receive_word {
+    HOLZMOTTE_RECEIVE_TESTED = 0, /* blocks whose header was tested */
+    HOLZMOTTE_RECEIVE_SLIPS = 1,  /* slips: one line bit skipped for each, in search of lock */
+    HOLZMOTTE_RECEIVE_LOCKED = 2, /* 1 where the receiver has block lock at the end, else 0 */
+    HOLZMOTTE_RECEIVE_HIGH = 3,   /* 1 where the error rate is high at the end, else 0 */
+    HOLZMOTTE_RECEIVE_VECTORS = 4 /* vectors written: one for each tested block */
+};
+
+enum holzmotte_diagram { HOLZMOTTE_INIT = 0, HOLZMOTTE_C = 1, HOLZMOTTE_D = 2, HOLZMOTTE_T = 3, HOLZMOTTE_E = 4 };
+
+/* Word i of a summary. */
+static inline uint64_t holzmotte_word(const uint8_t *summary, int i)
+{
+    uint64_t word = 0;
+    for (int k = 7; k >= 0; k--)
+        word = word * 256 + summary[8 * i + k];
+    return word;
+}
+
+/* Encodes and scrambles a list of vectors, from the transmit diagram's INIT.
+ *
+ *   vectors      read: the list, a multiple of 40 bytes, at most HOLZMOTTE_MAX_VECTOR_BYTES
+ *   start_state  below 2^58; bit i stands for the payload bit i + 1 places before the first
+ *   line         written: HOLZMOTTE_LINE_ROOM(vectors_len) bytes
+ *   summary      written: HOLZMOTTE_SEND_SUMMARY_BYTES bytes
+ *
+ * Refusals, in this order: 1, 2, 3, 4 (line or summary too short), 5. */
+uint64_t holzmotte_send(const uint8_t *vectors, size_t vectors_len, uint64_t start_state,
+                        uint8_t *line, size_t line_len, uint8_t *summary, size_t summary_len);
+
+/* Finds block lock in a line, from a fresh receiver, and gives a vector for each tested block.
+ *
+ *   line     read: at most HOLZMOTTE_MAX_LINE_BYTES; bits at its end that fill no block are not tested
+ *   vectors  at least HOLZMOTTE_VECTOR_ROOM(line_len) bytes; written: ten for each tested block
+ *   summary  written: HOLZMOTTE_RECEIVE_SUMMARY_BYTES bytes
+ *
+ * Refusals, in this order: 1, 4 (vectors or summary too short). */
+uint64_t holzmotte_receive(const uint8_t *line, size_t line_len,
+                           uint8_t *vectors, size_t vectors_len, uint8_t *summary, size_t summary_len);
+
+#ifdef __cplusplus
+}
+#endif
+
+#endif
