@@ -1,0 +1,252 @@
+-- Reading a file's records by windows, as a program has to, gathers what the reader on the whole file gathers.
+use Prim.Native.Nat.{ℕ, zero, suc, _+_, _-_, _*_, _≤_, _<_}
+use mathlib.Core.Path.{_≡_, refl, sym, ap, subst, _∙_}
+use mathlib.Core.Bool.{Bool, true, false, cond}
+use mathlib.Core.List.{List, [], _∷_, _++_}
+use native.Mathlib.Omega.{arith}
+use native.Mathlib.Nat.{le-refl}
+use lib.ListN.{length, take, drop, length-drop}
+use lib.Seq.{getD-take, getD-drop, take-all, length-take-le, drop-drop, take-take, take-add, drop-at}
+use lib.Dec.{ltb, leb}
+use borrow.Author.Tests.{ltb-true, ltb-false, leb-true, leb-false, lt-ltb, le-ltb, le-leb, lt-leb}
+use Rattle.refusals.specs.First.{accepted, first, byVerdict}
+use Rattle.refusals.specs.First.{refused as refuses}
+use Rattle.records.specs.Record.{Answer, whole, end, refused, twoAt, unknownKind, notGroups, readChecks, readAt, bodyOf, wantedOf}
+use Rattle.records.proofs.Laws.{by-test, inside}
+use Rattle.gather.specs.Gather.{Gathered, more, done, stop, judged, next}
+use Rattle.gather.specs.File.{placeAfter, gathering, gatheredFrom, windowOf, windows, after}
+
+-- An answer with its places counted from the head.
+abbrev pub rebased : Answer → Answer
+rebased (whole k start len after) = whole k 4 len (4 + len)
+rebased end = end
+rebased (refused n p) = refused n 0
+
+-- Two tests of the same fact.
+same-leb : (a b c d : ℕ) → (a ≤ b → c ≤ d) → (b < a → d < c) → leb a b ≡ leb c d
+same-leb a b c d f g = by-test (leb a b) (λ h. h ∙ sym (le-leb c d (f (leb-true a b h)))) (λ h. h ∙ sym (lt-leb c d (g (leb-false a b h))))
+
+-- The reader's answer by its tests, with the head at place 0 and at another.
+by-rows : (l a b c d e : Bool) (k start len after p : ℕ)
+    → cond l end (byVerdict (cond a (refuses 6 0) (cond b (refuses 7 0) (cond c (refuses 8 0) (cond d (refuses 6 0) (cond e (refuses 2 0) accepted))))) (whole k 4 len (4 + len)) refused)
+    ≡ rebased (cond l end (byVerdict (cond a (refuses 6 p) (cond b (refuses 7 p) (cond c (refuses 8 p) (cond d (refuses 6 p) (cond e (refuses 2 p) accepted))))) (whole k start len after) refused))
+by-rows true a b c d e k start len after p = refl
+by-rows false true b c d e k start len after p = refl
+by-rows false false true c d e k start len after p = refl
+by-rows false false false true d e k start len after p = refl
+by-rows false false false false true e k start len after p = refl
+by-rows false false false false false true k start len after p = refl
+by-rows false false false false false false k start len after p = refl
+
+-- A two-byte number of the rest is one of the whole.
+two-drop : (s : List ℕ) (at i : ℕ) → twoAt (drop at s) i ≡ twoAt s (at + i)
+two-drop s at i =
+    let e : at + (i + 1) ≡ at + i + 1 = omega arith in
+    simp (getD-drop, e)
+
+-- A two-byte number is the same in a part that holds it.
+two-take : (s : List ℕ) (n i : ℕ) → i + 1 < n → twoAt (take n s) i ≡ twoAt s i
+two-take s n i h =
+    let a = getD-take n s i 0 (omega arith) in
+    let b = getD-take n s (i + 1) 0 h in
+    simp (a, b)
+
+-- The body is the same in the record's own bytes and in all that follow.
+cut : (r : List ℕ) (len : ℕ) → 4 + len ≤ length r → take len (drop 4 (take (4 + len) r)) ≡ take len (drop 4 r)
+cut r len h =
+    ap (λ (l : List ℕ). take len (drop 4 l)) (take-add 4 len r)
+    ∙ ap (take len) (drop-at (take 4 r) (take len (drop 4 r)) 4 (length-take-le 4 r (omega arith)))
+    ∙ take-take len len (drop 4 r) (le-refl len)
+
+module _ (limit : ℕ) where
+  -- The rest of the file from the head on, read at 0.
+  pub read-drop : (s : List ℕ) (at : ℕ) → readAt limit (drop at s) 0 ≡ rebased (readAt limit s at)
+  unfolding readAt readChecks first
+  read-drop s at =
+      let l = same-leb (length (drop at s)) 0 (length s) at (λ h. omega (arith, length-drop at s)) (λ h. omega (arith, length-drop at s)) in
+      let t₀ : twoAt (drop at s) 0 ≡ twoAt s at = two-drop s at 0 ∙ ap (twoAt s) (omega arith) in
+      let t₂ : twoAt (drop at s) (0 + 2) ≡ twoAt s (at + 2) = two-drop s at 2 in
+      let m₀ : length (drop at s) - 0 ≡ length s - at = omega (arith, length-drop at s) in
+      let m₄ : length (drop at s) - (0 + 4) ≡ length s - (at + 4) = omega (arith, length-drop at s) in
+      simp (l, t₀, t₂, m₀, m₄)
+      (by-rows (leb (length s) at) (ltb (length s - at) 4) (ltb limit (twoAt s at)) (unknownKind (twoAt s (at + 2))) (ltb (length s - (at + 4)) (twoAt s at)) (notGroups (twoAt s (at + 2)) (twoAt s at)) (twoAt s (at + 2)) (at + 4) (twoAt s at) (at + 4 + twoAt s at) at)
+
+  -- A window is the rest itself where that is no longer.
+  window-all : (r : List ℕ) → length r ≤ 4 + wantedOf limit (take 4 r) → windowOf limit r ≡ r
+  unfolding windowOf
+  window-all r h = take-all (4 + wantedOf limit (take 4 r)) r h
+
+  -- What the head asks for, where there is a head.
+  wanted-len : (r : List ℕ) → 4 ≤ length r → twoAt r 0 ≤ limit → wantedOf limit (take 4 r) ≡ twoAt r 0
+  unfolding wantedOf
+  wanted-len r h g =
+      let t = two-take r 4 0 (omega arith) in
+      simp (le-ltb (length (take 4 r)) 4 (omega (arith, length-take-le 4 r h)), t, le-ltb limit (twoAt r 0) g)
+
+  -- More bytes after a window do not change what is read: a body that is too long.
+  read-long : (n : ℕ) (r : List ℕ) → 4 ≤ n → n ≤ length r → limit < twoAt r 0 → readAt limit (take n r) 0 ≡ refused 7 0
+  unfolding readAt readChecks first
+  read-long n r a b g =
+      let l = length-take-le n r b in
+      let t = two-take r n 0 (omega arith) in
+      simp (l, t, lt-leb n 0 (omega arith), le-ltb (n - 0) 4 (omega arith), lt-ltb limit (twoAt r 0) g)
+
+  -- A body of a length that is taken.
+  read-fits : (r : List ℕ) (n : ℕ) → twoAt r 0 ≤ limit → 4 + twoAt r 0 ≤ n → n ≤ length r → readAt limit (take n r) 0 ≡ readAt limit (take (4 + twoAt r 0) r) 0
+  unfolding readAt readChecks first
+  read-fits r n g a b =
+      let l = length-take-le n r b in
+      let k = length-take-le (4 + twoAt r 0) r (omega arith) in
+      let t = two-take r n 0 (omega arith) in
+      let u = two-take r n 2 (omega arith) in
+      let t′ = two-take r (4 + twoAt r 0) 0 (omega arith) in
+      let u′ = two-take r (4 + twoAt r 0) 2 (omega arith) in
+      simp (l, k, t, u, t′, u′, lt-leb n 0 (omega arith), lt-leb (4 + twoAt r 0) 0 (omega arith), le-ltb (n - 0) 4 (omega arith), le-ltb (4 + twoAt r 0 - 0) 4 (omega arith), le-ltb (n - (0 + 4)) (twoAt r 0) (omega arith), le-ltb (4 + twoAt r 0 - (0 + 4)) (twoAt r 0) (omega arith))
+
+  -- The window of a record is read as the rest of the file is.
+  pub read-window : (r : List ℕ) → readAt limit (windowOf limit r) 0 ≡ readAt limit r 0
+  unfolding windowOf
+  read-window r =
+      by-test (leb (length r) (4 + wantedOf limit (take 4 r)))
+      (λ h. ap (λ (l : List ℕ). readAt limit l 0) (window-all r (leb-true _ _ h)))
+      (λ h. let g : 4 + wantedOf limit (take 4 r) < length r = leb-false _ _ h in
+      let all : take (length r) r ≡ r = take-all (length r) r (omega arith) in
+      by-test (ltb limit (twoAt r 0))
+      (λ b. let q = ltb-true _ _ b in read-long (4 + wantedOf limit (take 4 r)) r (omega arith) (omega arith) q ∙ sym (ap (λ (l : List ℕ). readAt limit l 0) (sym all) ∙ read-long (length r) r (omega arith) (omega arith) q))
+      (λ b. let q = ltb-false _ _ b in let w = wanted-len r (omega arith) q in
+      ap (λ (n : ℕ). readAt limit (take (4 + n) r) 0) w ∙ sym (ap (λ (l : List ℕ). readAt limit l 0) (sym all) ∙ read-fits r (length r) q (omega (arith, g, w)) (omega arith))))
+
+  -- A window's answer is the file's, with its places counted from the head.
+  pub read-local : (file : List ℕ) (at : ℕ) → readAt limit (windowOf limit (drop at file)) 0 ≡ rebased (readAt limit file at)
+  read-local file at = read-window (drop at file) ∙ read-drop file at
+
+  module _ (file : List ℕ) (at k start len nx : ℕ) (e : readAt limit file at ≡ whole k start len nx) where
+    -- A whole record's window is its head and its body.
+    window-is : windowOf limit (drop at file) ≡ take (4 + len) (drop at file)
+    unfolding windowOf
+    window-is =
+        let i = inside limit file at k start len nx e in
+        let r = drop at file in
+        let m : length r ≡ length file - at = length-drop at file in
+        let t : twoAt r 0 ≡ len = two-drop file at 0 ∙ ap (twoAt file) (omega arith) ∙ sym (i .len-is) in
+        let w : wantedOf limit (take 4 r) ≡ len = wanted-len r (omega (arith, m, i .fits, i .start-is)) (omega (arith, t, i .small)) ∙ t in
+        ap (λ (n : ℕ). take (4 + n) r) w
+
+    -- There are as many bytes as a whole record has.
+    long-enough : 4 + len ≤ length (drop at file)
+    long-enough = let i = inside limit file at k start len nx e in omega (arith, length-drop at file, i .fits, i .start-is)
+
+    -- The body in the window is the body in the file.
+    body-local : bodyOf (windowOf limit (drop at file)) 4 len ≡ bodyOf file start len
+    unfolding bodyOf
+    body-local =
+        let i = inside limit file at k start len nx e in
+        let n = length-take-le (4 + len) (drop at file) long-enough in
+        let g : at + 4 ≡ start = sym (i .start-is) in
+        rw window-is
+        (simp (n, le-leb 4 (4 + len) (omega arith), le-leb len (4 + len - 4) (omega arith), le-leb start (length file) (omega (arith, i .fits)), le-leb len (length file - start) (omega (arith, i .fits)))
+        (cut (drop at file) len long-enough ∙ ap (take len) (drop-drop 4 at file ∙ ap (λ (k : ℕ). drop k file) g)))
+
+    -- The rest after the window is the file from the next place on.
+    rest-is : drop (length (windowOf limit (drop at file))) (drop at file) ≡ drop nx file
+    rest-is =
+        let i = inside limit file at k start len nx e in
+        let l : length (windowOf limit (drop at file)) ≡ 4 + len = ap length window-is ∙ length-take-le (4 + len) (drop at file) long-enough in
+        let p : at + length (windowOf limit (drop at file)) ≡ nx = omega (arith, l, i .start-is, i .next-is) in
+        drop-drop (length (windowOf limit (drop at file))) at file ∙ ap (λ (q : ℕ). drop q file) p
+
+  module _ (kind most : ℕ) where
+    -- One record by its window is that record of the file.
+    judged-local : (file : List ℕ) (at : ℕ) (bytes : List ℕ) (a : Answer) → readAt limit file at ≡ a → judged kind most (windowOf limit (drop at file)) bytes (rebased a) ≡ judged kind most file bytes a
+    judged-local file at bytes (whole k start len nx) e = simp (body-local file at k start len nx e)
+    judged-local file at bytes end e = refl
+    judged-local file at bytes (refused n p) e = refl
+
+    -- So one step by the window is that step on the file.
+    next-local : (file : List ℕ) (at : ℕ) (g : Gathered) → next limit kind most (windowOf limit (drop at file)) 0 g ≡ next limit kind most file at g
+    next-local file at (more bytes) = ap (judged kind most (windowOf limit (drop at file)) bytes) (read-local file at) ∙ judged-local file at bytes (readAt limit file at) refl
+    next-local file at (done bytes) = refl
+    next-local file at (stop n bytes) = refl
+
+-- There was an end or a refusal.
+pub data Over : Gathered → Type 0 where
+  ended : (bytes : List ℕ) → Over (done bytes)
+  stopped : (n : ℕ) (bytes : List ℕ) → Over (stop n bytes)
+
+module _ (limit kind most : ℕ) where
+  -- From then on nothing changes.
+  still : (ws : List (List ℕ)) {g : Gathered} → Over g → after limit kind most ws g ≡ g
+  unfolding after
+  still [] o = refl
+  still (w ∷ ws) (ended b) = still ws (ended b)
+  still (w ∷ ws) (stopped n b) = still ws (stopped n b)
+
+  -- The same of the whole file.
+  still-file : (n : ℕ) (file : List ℕ) (at : ℕ) {g : Gathered} → Over g → gathering limit kind most n file at g ≡ g
+  unfolding gathering
+  still-file zero file at o = refl
+  still-file (suc n) file at (ended b) = still-file n file (placeAfter at (readAt limit file at)) (ended b)
+  still-file (suc n) file at (stopped m b) = still-file n file (placeAfter at (readAt limit file at)) (stopped m b)
+
+  -- Where the reader finds no whole record it is over.
+  over-end : (s : List ℕ) (at : ℕ) (g : Gathered) → readAt limit s at ≡ end → Over (next limit kind most s at g)
+  over-end s at (more b) e = rw e (ended b)
+  over-end s at (done b) e = ended b
+  over-end s at (stop n b) e = stopped n b
+
+  -- The same for a refusal.
+  over-refused : (s : List ℕ) (at : ℕ) (g : Gathered) (m p : ℕ) → readAt limit s at ≡ refused m p → Over (next limit kind most s at g)
+  over-refused s at (more b) m p e = rw e (stopped m b)
+  over-refused s at (done b) m p e = ended b
+  over-refused s at (stop n b) m p e = stopped n b
+
+  -- From one record to the next, where the rest of the file is done by `ih`.
+  onward : (n : ℕ) (file : List ℕ) → ((at : ℕ) (g : Gathered) → after limit kind most (windows limit n (drop at file)) g ≡ gathering limit kind most n file at g)
+      → (at : ℕ) (g : Gathered) (a : Answer) → readAt limit file at ≡ a
+      → after limit kind most (windows limit n (drop (length (windowOf limit (drop at file))) (drop at file))) (next limit kind most file at g)
+      ≡ gathering limit kind most n file (placeAfter at a) (next limit kind most file at g)
+  onward n file ih at g (whole k start len nx) e =
+      ap (λ (r : List ℕ). after limit kind most (windows limit n r) (next limit kind most file at g)) (rest-is limit file at k start len nx e)
+      ∙ ih nx (next limit kind most file at g)
+  onward n file ih at g end e = let o = over-end file at g e in still _ o ∙ sym (still-file n file at o)
+  onward n file ih at g (refused m p) e = let o = over-refused file at g m p e in still _ o ∙ sym (still-file n file at o)
+
+  -- The program's windows come to what the definition says of the file.
+  pub by-windows : (n : ℕ) (file : List ℕ) (at : ℕ) (g : Gathered) → after limit kind most (windows limit n (drop at file)) g ≡ gathering limit kind most n file at g
+  unfolding after gathering windows
+  by-windows zero file at g = refl
+  by-windows (suc n) file at g =
+      ap (after limit kind most (windows limit n (drop (length (windowOf limit (drop at file))) (drop at file)))) (next-local limit kind most file at g)
+      ∙ onward n file (by-windows n file) at g (readAt limit file at) refl
+
+  -- A file of at most 4 n bytes from the place on is through after n + 1 records: each has four bytes at least.
+  through : (n : ℕ) (file : List ℕ) (at : ℕ) (g : Gathered) (a : Answer) → readAt limit file at ≡ a
+      → ((k start len nx : ℕ) → a ≡ whole k start len nx → Over (gathering limit kind most n file nx (next limit kind most file at g)))
+      → Over (gathering limit kind most n file (placeAfter at a) (next limit kind most file at g))
+  through n file at g (whole k start len nx) e ih = ih k start len nx refl
+  through n file at g end e ih = let o = over-end file at g e in subst Over (sym (still-file n file at o)) o
+  through n file at g (refused m p) e ih = let o = over-refused file at g m p e in subst Over (sym (still-file n file at o)) o
+
+  -- As many records as a file can have are enough.
+  pub enough : (n : ℕ) (file : List ℕ) (at : ℕ) (g : Gathered) → length file ≤ at + 4 * n → Over (gathering limit kind most (suc n) file at g)
+  unfolding gathering
+  enough zero file at g l =
+      through zero file at g (readAt limit file at) refl
+      (λ k start len nx w. let i = inside limit file at k start len nx w in absurd (omega (arith, i .begins, l)))
+  enough (suc n) file at g l =
+      through (suc n) file at g (readAt limit file at) refl
+      (λ k start len nx w. let i = inside limit file at k start len nx w in enough n file nx (next limit kind most file at g) (omega (arith, i .start-is, i .next-is, l)))
+
+  -- All windows of a file gather what all its records gather; and then it is over.
+  pub whole-file : (file : List ℕ) → after limit kind most (windows limit (suc (length file)) file) (more []) ≡ gatheredFrom limit kind most file
+  whole-file file = by-windows (suc (length file)) file 0 (more [])
+
+  -- After all records of a file there was an end or a refusal.
+  pub over : (file : List ℕ) → Over (gatheredFrom limit kind most file)
+  over file = enough (length file) file 0 (more []) (omega arith)
+
+  -- One window more.
+  pub after-one : (ws : List (List ℕ)) (w : List ℕ) (g : Gathered) → after limit kind most (ws ++ w ∷ []) g ≡ next limit kind most w 0 (after limit kind most ws g)
+  unfolding after
+  after-one [] w g = refl
+  after-one (v ∷ ws) w g = after-one ws w (next limit kind most v 0 g)

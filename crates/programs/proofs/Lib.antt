@@ -1,0 +1,5 @@
+pub mod Outcomes
+pub mod Sent
+pub mod Received
+pub mod Windows
+pub mod Unique

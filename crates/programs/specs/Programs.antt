@@ -1,0 +1,64 @@
+-- Document 01, 'The two programs': the bytes that each writes, by what it gathered.
+use Prim.Native.Nat.{ℕ}
+use mathlib.Core.List.{List, [], _++_}
+use Rattle.refusals.specs.Number.{numberOf}
+use Rattle.place.specs.Placed.{Writes}
+use Rattle.records.specs.Record.{bodyLimit, bodyOf}
+use Rattle.gather.specs.Gather.{Gathered, more, done, stop}
+use Rattle.gather.specs.File.{gatheredFrom, after}
+use Rattle.display.specs.Display.{lineRecords, hexLines, summaryLines, refusedLine, inputFailedLine}
+use Rattle.input.specs.declared.Outcome.{Outcome}
+use Rattle.input.specs.declared.Outcome.the-variants as Case
+use Rattle.sending.specs.Send.{sentLine}
+use Rattle.sending.specs.Answer.{SendAnswer, sent, refused, sendAnswer}
+use Rattle.receiving.specs.Receive.{receivedVectors}
+use Rattle.receiving.specs.Answer.{ReceiveAnswer, received, receiveAnswer}
+use Rattle.receiving.specs.Answer.{refused as receiveRefused}
+
+-- "Each gathers at most 49,500 line bytes or 60,000 vector bytes"
+abbrev pub vectorBytes : ℕ
+vectorBytes = 60000
+
+abbrev pub lineBytes : ℕ
+lineBytes = 49500
+
+-- "one line record after another of 4,092 bytes"; or a refusal's line
+abbrev pub sentText : (vectors : List ℕ) → SendAnswer → List ℕ
+sentText vectors (sent endState diagram replaced) = lineRecords 4092 (sentLine vectors 0)
+sentText vectors (refused number place) = refusedLine number
+
+-- the sender: "start state 0"; "a refusal prints one line and nothing else"; where no end was seen, a read failed
+unfoldable pub senderOutput : Gathered → List ℕ
+senderOutput (done vectors) = sentText vectors (sendAnswer vectors 0 lineBytes)
+senderOutput (stop number before) = refusedLine number
+senderOutput (more before) = inputFailedLine
+
+-- "prints each vector as 20 hex digits, then four lines"; or a refusal's line
+abbrev pub receivedText : (line : List ℕ) → ReceiveAnswer → List ℕ
+receivedText line (received tested slips locked high vectors) = hexLines (receivedVectors line) ++ summaryLines tested slips locked high
+receivedText line (receiveRefused number place) = refusedLine number
+
+-- the receiver
+unfoldable pub receiverOutput : Gathered → List ℕ
+receiverOutput (done line) = receivedText line (receiveAnswer line vectorBytes)
+receiverOutput (stop number before) = refusedLine number
+receiverOutput (more before) = inputFailedLine
+
+-- each on a whole file: the sender takes records of kind 1, the receiver of kind 2
+unfoldable pub senderOn : (file : List ℕ) → List ℕ
+senderOn file = senderOutput (gatheredFrom bodyLimit 1 vectorBytes file)
+
+unfoldable pub receiverOn : (file : List ℕ) → List ℕ
+receiverOn file = receiverOutput (gatheredFrom bodyLimit 2 lineBytes file)
+
+-- what was gathered, by the outcome of reading and the store
+abbrev pub gatheredOf : Outcome → (store : List ℕ) → Gathered
+gatheredOf (Case.Gathered n) store = done (bodyOf store 0 n)
+gatheredOf (Case.Refused why) store = stop (numberOf why) []
+gatheredOf Case.Failed store = more []
+gatheredOf Case.Unended store = more []
+
+-- what reading and writing leave of a program: windows were read in turn, and this is what is written for them
+pub record Reads (kind most : ℕ) (output : Gathered → List ℕ) (entry : List ℕ) (r : ℕ) (exit : List ℕ) : Type 0 where
+  pub windows : List (List ℕ)
+  pub written : Writes 0 (output (after bodyLimit kind most windows (more []))) entry r exit

@@ -1,0 +1,4 @@
+// Vector records, an empty one among them.
+fn main() {
+    programs::sender();
+}
