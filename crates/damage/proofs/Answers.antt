@@ -1,0 +1,112 @@
+-- What a receiver answers for a block that leaves it locked and not high: the error vector, or the decoded vector of a block that is not
+-- of kind E.
+use mathlib.Core.Path.{_≡_, refl, sym, ap, _∙_}
+use mathlib.Core.Bool.{Bool, true, false}
+use mathlib.Core.List.{List, [], _∷_}
+use mathlib.Core.Logic.{_⊎_, inl, inr}
+use Prim.Native.Nat.{ℕ, zero, suc, _<_}
+use native.Mathlib.Omega.{arith}
+use lib.ListN.{length, getD}
+use Rattle.line.specs.declared.Block.{Block}
+use Rattle.block.specs.Block.{kindOf, decoded, errorVector}
+use Rattle.block.specs.declared.Kind.{Kind}
+use Rattle.block.specs.declared.Kind.the-variants.{D, C, S, T, E}
+use Rattle.diagrams.specs.Diagram.{afterIdle, afterData, afterError, diagramOf}
+use Rattle.diagrams.specs.declared.State.{State}
+use Rattle.diagrams.specs.declared.State.the-variants.{Init, Control, Data, Terminate, Error}
+use Rattle.scrambler.specs.Scrambler.{descrambledAll}
+use Rattle.receiving.specs.Machine.{Tested, linkOf, testedOf}
+use Rattle.receiving.specs.Receive.{ends, stateOf, answerIn, answers}
+use Rattle.receiving.specs.declared.Link.{Link}
+use Rattle.demands.proofs.Runs.{testedAll}
+use Rattle.damage.proofs.Blocks.{payloads}
+
+-- the error vector, or what was decoded of a block of another kind than E
+abbrev pub ErrorOr : Kind → (decoded answer : List ℕ) → Type 0
+ErrorOr k decoded answer = (answer ≡ errorVector) ⊎ ((answer ≡ decoded) × (k ≡ E → ⊥))
+
+-- 1 for kind E, 0 for the others, so that they are told apart
+errorCode : Kind → ℕ
+errorCode D = 0
+errorCode C = 0
+errorCode S = 0
+errorCode T = 0
+errorCode E = 1
+
+-- a kind of which this is 0 is not E
+other : (k : Kind) → errorCode k ≡ 0 → k ≡ E → ⊥
+unfolding errorCode
+other k c e = let z : _≡_ {A = ℕ} 0 1 = sym c ∙ ap errorCode e in omega arith
+
+-- a kind is E or it is not
+pub error-or-not : (k : Kind) → (k ≡ E) ⊎ (k ≡ E → ⊥)
+unfolding errorCode
+error-or-not D = inr (other D refl)
+error-or-not C = inr (other C refl)
+error-or-not S = inr (other S refl)
+error-or-not T = inr (other T refl)
+error-or-not E = inl refl
+
+-- a step of the diagram, by the kind of its block
+module _ (v : List ℕ) where
+  -- after INIT, C or T
+  idle : (k : Kind) → ErrorOr k v (answerIn (afterIdle k) v)
+  unfolding afterIdle answerIn errorCode
+  idle D = inl refl
+  idle C = inr (refl, other C refl)
+  idle S = inr (refl, other S refl)
+  idle T = inl refl
+  idle E = inl refl
+
+  -- a Terminate after D or E, whether or not the next block lets it end
+  ended : (e : Bool) → ErrorOr T v (answerIn (afterData T e) v) × ErrorOr T v (answerIn (afterError T e) v)
+  unfolding afterData afterError answerIn errorCode
+  ended true = (inr (refl, other T refl), inr (refl, other T refl))
+  ended false = (inl refl, inl refl)
+
+  -- after D
+  frame : (k : Kind) (e : Bool) → ErrorOr k v (answerIn (afterData k e) v)
+  unfolding afterData answerIn errorCode
+  frame D e = inr (refl, other D refl)
+  frame C e = inl refl
+  frame S e = inl refl
+  frame T e = ended e .0
+  frame E e = inl refl
+
+  -- after E
+  error : (k : Kind) (e : Bool) → ErrorOr k v (answerIn (afterError k e) v)
+  unfolding afterError answerIn errorCode
+  error D e = inr (refl, other D refl)
+  error C e = inr (refl, other C refl)
+  error S e = inl refl
+  error T e = ended e .1
+  error E e = inl refl
+
+  -- from any state
+  step : (s : State) (k : Kind) (e : Bool) → ErrorOr k v (answerIn (diagramOf s k e) v)
+  unfolding diagramOf
+  step Init k e = idle k
+  step Control k e = idle k
+  step Terminate k e = idle k
+  step Data k e = frame k e
+  step Error k e = error k e
+
+-- the answer for block k of those that were tested
+pub answer-at : (s : State) (ts : List Tested) (z : Tested) (k : ℕ) → k < length ts → getD ts k z .on ≡ true
+    → ErrorOr (getD ts k z .kind) (getD ts k z .vector) (getD (answers s ts) k [])
+unfolding answers stateOf
+answer-at s [] z k l o = absurd (omega arith)
+answer-at s (t ∷ ts) z zero l o = rw o (step (t .vector) s (t .kind) (ends ts))
+answer-at s (t ∷ ts) z (suc k) l o = answer-at (stateOf s t (ends ts)) ts z k (omega arith) o
+
+-- a tested block has the kind and the vector of a block with this header and payload
+abbrev pub Read : (header payload : ℕ) → Tested → Type 0
+Read header payload t = (t .kind ≡ kindOf header payload) × (t .vector ≡ decoded header payload)
+
+-- block k of a line is tested with its header and its descrambled payload
+pub tested-at : (l : Link) (bs : List Block) (b : Block) (z : Tested) (k : ℕ) → k < length bs
+    → Read (getD bs k b .header) (getD (descrambledAll (payloads bs) (l .history)) k 0) (getD (testedAll l bs) k z)
+unfolding testedAll testedOf linkOf descrambledAll
+tested-at l [] b z k m = absurd (omega arith)
+tested-at l (c ∷ bs) b z zero m = (refl, refl)
+tested-at l (c ∷ bs) b z (suc k) m = tested-at (linkOf l (c .header) (c .payload)) bs b z k (omega arith)

@@ -1,0 +1,9 @@
+pub mod Flipped
+pub mod Blocks
+pub mod Headers
+pub mod Answers
+pub mod OneBlock
+pub mod Payloads
+pub mod SentBlocks
+pub mod Demand3
+pub mod Calls

@@ -1,0 +1,91 @@
+-- Demand 3: "Of the line sent for any accepted list, from any allowed start state, flip at most three bits, all in block 64 or
+-- later, never both header bits of one block. A fresh receiver answers each vector from number 63 on as the error vector, or with
+-- the same control flags, control characters and ordered set codes as the block that was sent; in the second case a data bit
+-- differs exactly when an odd number of flipped payload bits stand 0, 39 or 58 payload bits before it."
+use Prim.Native.Nat.{ℕ, _+_, _*_, _/_, _%_, _≤_, _<_}
+use mathlib.Core.Path.{_≡_}
+use mathlib.Core.Bool.{true, false}
+use mathlib.Core.List.{List, []}
+use mathlib.Core.Logic.{_≢_, _↔_, _⊎_}
+use lib.ListN.{length, getD, take}
+use Rattle.bits.specs.Bits.{bit}
+use Rattle.line.specs.declared.Block.{Block}
+use Rattle.block.specs.Block.{Format, formatOf, decoded, errorVector, flagOf, laneOf}
+use Rattle.block.specs.Rows.{placeAt}
+use Rattle.sending.specs.Send.{vectorsIn, errorBlock, blocksFor, sentLine}
+use Rattle.sending.specs.declared.Sending.{Sending}
+use Rattle.sending.specs.declared.Sent.the-variants as Sent
+use Rattle.receiving.specs.Receive.{vectorsOf}
+use Rattle.receiving.specs.Answer.{answerOf, received}
+use Rattle.receiving.specs.declared.Received.{Received}
+use Rattle.demands.specs.Words.{accepts}
+use Rattle.demands.specs.Promises.{Sends, Receives}
+use Rattle.damage.specs.Damage.{damaged, Flips, flipsBefore}
+
+-- ---- a block that was sent, as it was before scrambling
+
+-- its vector: the error vector for the block of state E
+abbrev pub sentVector : Block → List ℕ
+sentVector sent = decoded (sent .header) (sent .payload)
+
+-- the bit of its payload at which the field of character p begins: after the type and the fields before that one
+abbrev pub place : Block → ℕ → ℕ
+place sent p =
+    let format : Format = formatOf (sent .header) (sent .payload) in
+    format .lead + placeAt (format .fields) p
+
+-- ---- vector k of the receiver's beside block k of the sender's
+
+-- "the same control flags, control characters and ordered set codes as the block that was sent": an ordered set's octet tells its code
+pub record SameControl (sent v : List ℕ) : Type 0 where
+  pub first-flags : getD v 0 0 ≡ getD sent 0 0
+  pub second-flags : getD v 5 0 ≡ getD sent 5 0
+  pub characters : (p : ℕ) → p < 8 → flagOf sent p ≡ 1 → laneOf v p ≡ laneOf sent p
+
+-- "a data bit differs exactly when an odd number of flipped payload bits stand 0, 39 or 58 payload bits before it": bit j of character p
+abbrev pub DataByFlips : (ℕ → ℕ) → ℕ → Block → List ℕ → Type 0
+DataByFlips flips k sent v =
+    (p j : ℕ) → p < 8 → j < 8 → flagOf (sentVector sent) p ≡ 0
+    → bit (laneOf v p) j ≢ bit (laneOf (sentVector sent) p) j ↔ flipsBefore flips (64 * k + place sent p + j) % 2 ≡ 1
+
+-- "as the error vector, or with the same .."
+abbrev pub Answered : (ℕ → ℕ) → ℕ → Block → List ℕ → Type 0
+Answered flips k sent v = (v ≡ errorVector) ⊎ (SameControl (sentVector sent) v × DataByFlips flips k sent v)
+
+-- "answers each vector from number 63 on": the receiver's vectors beside the blocks that were sent
+pub record Survived (flips : ℕ → ℕ) (blocks : List Block) (vectors : List (List ℕ)) : Type 0 where
+  pub one-each : 63 < length blocks → length vectors ≡ length blocks
+  pub from-63 : (k : ℕ) → 63 ≤ k → k < length blocks → Answered flips k (getD blocks k errorBlock) (getD vectors k [])
+
+-- ---- the demand, of at most `most` flips
+
+-- "at most three bits"
+abbrev pub mostFlips : ℕ
+mostFlips = 3
+
+-- the sentence above
+abbrev pub Demand3 : ℕ → Type 0
+Demand3 most =
+    (bytes : List ℕ) (start room : ℕ)
+    → accepts bytes start room
+    → (flips : ℕ → ℕ)
+    → Flips most (sentLine bytes start) flips
+    → Survived flips (blocksFor bytes) (vectorsOf (damaged (sentLine bytes start) flips))
+
+-- the line that stands in the room that `send` was lent, four vectors in 33 bytes
+abbrev pub lineIn : (room bytes : List ℕ) → List ℕ
+lineIn room bytes = take (33 * (length bytes / 40)) room
+
+-- The same of the functions. `send` was lent `room`, answered success and left `room′`; bits of the line that stands there were flipped;
+-- then `receive` was lent it, and room for as many bytes as were sent. It tests each block, slips nowhere and ends locked and not high.
+abbrev pub Demand3OfCalls : ℕ → Type 0
+Demand3OfCalls most =
+    (bytes : List ℕ) (start : ℕ) (room room′ : List ℕ) (s : Sending)
+    → Sends bytes start room (Sent.Done s) room′
+    → (flips : ℕ → ℕ)
+    → Flips most (lineIn room′ bytes) flips
+    → (out out′ : List ℕ) (r : Received)
+    → Receives (damaged (lineIn room′ bytes) flips) out r out′
+    → length bytes ≤ length out
+    → (63 < length (blocksFor bytes) → answerOf r ≡ received (length (blocksFor bytes)) 0 true false (length (blocksFor bytes)))
+    × Survived flips (blocksFor bytes) (vectorsIn (length (blocksFor bytes)) out′)

@@ -1,0 +1,118 @@
+-- What it means that sending accepts vector bytes: whole groups, a start state of 58 bits, and no control byte above 15. Assumes nothing.
+use mathlib.Core.Path.{_≡_, refl, ap, ap₂, _∙_}
+use mathlib.Core.Bool.{Bool, true, false, not, cond}
+use mathlib.Core.List.{List, [], _∷_, _++_, flatten}
+use Prim.Native.Nat.{ℕ, zero, suc, _+_, _-_, _*_, _/_, _%_, _^_, _≤_, _<_}
+use native.Mathlib.Omega.{arith}
+use lib.Dec.{ltb, leb, eqb}
+use lib.ListN.{length, getD, take, drop, length-drop, take-append-drop}
+use lib.Seq.{length-take-le, getD-take, getD-drop, drop-drop}
+use borrow.Author.Tests.{ltb-false, eqb-true, not-false}
+use Rattle.refusals.proofs.Laws.{passed}
+use Rattle.block.specs.Block.{highFrom, highControl}
+use Rattle.sending.specs.Send.{vectorsIn, vectorsOf}
+use Rattle.sending.specs.Answer.{sendChecks}
+use Rattle.demands.specs.Words.{accepts}
+use Rattle.demands.proofs.Sent.{Vectors}
+
+-- ---- the checks that have passed
+
+module _ (bytes : List ℕ) (start room : ℕ) (ok : accepts bytes start room) where
+  -- the five of them, in order
+  checked : (ltb 1000000 (length bytes) ≡ false) × (not (eqb (length bytes % 40) 0) ≡ false) × (leb (2 ^ 58) start ≡ false)
+      × (ltb room (33 * (length bytes / 40)) ≡ false) × (ltb (highControl bytes) (length bytes) ≡ false)
+  unfolding sendChecks
+  checked =
+      let a = passed _ _ ok in
+      let b = passed _ _ (a .1) in
+      let c = passed _ _ (b .1) in
+      let d = passed _ _ (c .1) in
+      let e = passed _ _ (d .1) in
+      (a .0, b .0, c .0, d .0, e .0)
+
+  -- at most 1,000,000 bytes
+  pub not-long : length bytes ≤ 1000000
+  not-long = ltb-false 1000000 (length bytes) (checked .0)
+
+  -- whole groups of four vectors
+  pub whole-groups : length bytes % 40 ≡ 0
+  whole-groups = eqb-true (length bytes % 40) 0 (not-false (eqb (length bytes % 40) 0) (checked .1))
+
+  -- the place of the first high control byte is past the list
+  none-high : length bytes ≤ highControl bytes
+  none-high = ltb-false (highControl bytes) (length bytes) (checked .4)
+
+-- ---- no control byte above 15
+
+-- where no control byte of n words from p on is high, each is below 16
+low-controls : (n p : ℕ) (bytes : List ℕ) → p + 5 * n ≤ highFrom n p bytes → (i : ℕ) → i < n → getD bytes (p + 5 * i) 0 < 16
+unfolding highFrom
+low-controls zero p bytes h i l = absurd (omega arith)
+low-controls (suc n) p bytes h i l = go (ltb 15 (getD bytes p 0)) refl h (low-controls n (p + 5) bytes) i l
+  where
+    go : (b : Bool) → ltb 15 (getD bytes p 0) ≡ b → p + 5 * suc n ≤ cond b p (highFrom n (p + 5) bytes)
+        → (p + 5 + 5 * n ≤ highFrom n (p + 5) bytes → (j : ℕ) → j < n → getD bytes (p + 5 + 5 * j) 0 < 16)
+        → (i : ℕ) → i < suc n → getD bytes (p + 5 * i) 0 < 16
+    go true e h rest i l = absurd (omega arith)
+    go false e h rest zero l =
+        let z : p + 5 * 0 ≡ p = omega arith in
+        rw z (omega (arith, ltb-false 15 (getD bytes p 0) e))
+    go false e h rest (suc j) l =
+        let z : p + 5 * suc j ≡ p + 5 + 5 * j = omega arith in
+        rw z (rest (omega arith) j (omega arith))
+
+-- ---- the vectors
+
+-- the vectors after the first n are those of the bytes after the first 10 n
+pub drop-vectors : (n k : ℕ) (bytes : List ℕ) → n ≤ k → drop n (vectorsIn k bytes) ≡ vectorsIn (k - n) (drop (10 * n) bytes)
+unfolding vectorsIn
+drop-vectors zero k bytes h = let e : k ≡ k - 0 = omega arith in ap (λ (m : ℕ). vectorsIn m bytes) e
+drop-vectors (suc n) zero bytes h = absurd (omega arith)
+drop-vectors (suc n) (suc k) bytes h =
+    let e : k - n ≡ suc k - suc n = omega arith in
+    let f : 10 + 10 * n ≡ 10 * suc n = omega arith in
+    drop-vectors n k (drop 10 bytes) (omega arith)
+    ∙ ap₂ vectorsIn e (drop-drop (10 * n) 10 bytes ∙ ap (λ (m : ℕ). drop m bytes) f)
+
+-- the vectors one after another are the bytes
+pub flat-vectors : (k : ℕ) (bytes : List ℕ) → length bytes ≡ 10 * k → flatten (vectorsIn k bytes) ≡ bytes
+unfolding vectorsIn flatten
+flat-vectors zero [] e = refl
+flat-vectors zero (b ∷ bytes) e = absurd (omega arith)
+flat-vectors (suc k) bytes e =
+    ap (λ (rest : List ℕ). take 10 bytes ++ rest) (flat-vectors k (drop 10 bytes) (rw length-drop (omega arith)))
+    ∙ take-append-drop 10 bytes
+
+-- whole vectors with low control bytes
+vectors-in : (k : ℕ) (bytes : List ℕ) → 10 * k ≤ length bytes → ((i : ℕ) → i < 2 * k → getD bytes (5 * i) 0 < 16) → Vectors (vectorsIn k bytes)
+unfolding vectorsIn
+vectors-in zero bytes h low = tt
+vectors-in (suc k) bytes h low = (
+  record {
+    ten = length-take-le 10 bytes (omega arith);
+    low = rw (getD-take 10 bytes 0 0 (omega arith)) (low 0 (omega arith));
+    high = rw (getD-take 10 bytes 5 0 (omega arith)) (low 1 (omega arith));
+  },
+  vectors-in k (drop 10 bytes) (rw length-drop (omega arith))
+      (λ i l.
+      let e : 10 + 5 * i ≡ 5 * (2 + i) = omega arith in
+      rw (getD-drop 10 bytes (5 * i) 0, e) (low (2 + i) (omega arith))),
+)
+
+module _ (bytes : List ℕ) (start room : ℕ) (ok : accepts bytes start room) where
+  -- whole vectors, four to a group
+  pub ten-each : length bytes ≡ 10 * (length bytes / 10)
+  ten-each = omega (arith, whole-groups bytes start room ok)
+
+  -- four vectors to a group
+  pub four-each : length bytes / 10 ≡ 4 * (length bytes / 40)
+  four-each = omega (arith, whole-groups bytes start room ok)
+
+  -- each vector has ten bytes, and control bytes below 16
+  pub vectors-well : Vectors (vectorsOf bytes)
+  unfolding highControl
+  vectors-well =
+      vectors-in (length bytes / 10) bytes (omega (arith, ten-each))
+      (λ i l.
+      let e : 0 + 5 * i ≡ 5 * i = omega arith in
+      rw (← e) (low-controls (length bytes / 5) 0 bytes (omega (arith, none-high bytes start room ok)) i (omega arith)))

@@ -1,0 +1,123 @@
+-- Demand 2 of the functions: what follows from the promises of `send` and `receive`. Assumes nothing.
+use mathlib.Core.Path.{_≡_, refl, ap, _∙_, subst}
+use mathlib.Core.Bool.{true, false}
+use mathlib.Core.List.{List, _++_, flatten}
+use Prim.Native.Nat.{ℕ, _+_, _*_, _/_, _≤_}
+use native.Mathlib.Omega.{arith}
+use lib.ListN.{length, take, drop, length-append, length-drop}
+use lib.Seq.{take-at}
+use borrow.Author.Tests.{le-ltb}
+use Rattle.sending.proofs.Laws.{length-vectors}
+use Rattle.bits.specs.Bits.{streamBit}
+use Rattle.bits.proofs.Laws.{length-cut}
+use Rattle.scrambler.specs.Scrambler.{mirror}
+use Rattle.refusals.specs.First.{Verdict, accepted, refused, first, byVerdict}
+use Rattle.sending.specs.Send as Send
+use Rattle.sending.specs.Send.{sentLine, lineWords, blocksFor}
+use Rattle.sending.specs.Answer as Sending
+use Rattle.sending.specs.declared.Sending.{Sending}
+use Rattle.sending.specs.declared.Sent.the-variants as Sent
+use Rattle.receiving.specs.Receive as Receive
+use Rattle.receiving.specs.Answer as Receiving
+use Rattle.receiving.specs.declared.Receiving.{Receiving}
+use Rattle.receiving.specs.declared.Received.{Received}
+use Rattle.receiving.specs.declared.Received.the-variants as Received
+use Rattle.demands.specs.Words.{accepts}
+use Rattle.demands.specs.Promises.{Sends, Receives}
+use Rattle.demands.specs.Demand2.{Returnable, faults, Demand2OfCalls}
+use Rattle.demands.proofs.Accepted.{not-long}
+use Rattle.demands.proofs.Demand2.{demand-2}
+
+-- `send` answers success only where it accepts
+done-accepts : (bytes : List ℕ) (start room : ℕ) (s : Sending) → Sending.answerOf (Sent.Done s) ≡ Sending.sendAnswer bytes start room → accepts bytes start room
+unfolding Sending.sendAnswer
+done-accepts bytes start room s e = go (first (Sending.sendChecks bytes start room)) refl e
+  where
+    go : (v : Verdict) → first (Sending.sendChecks bytes start room) ≡ v
+        → Sending.sent (s .state) (s .diagram) (s .replaced) ≡ byVerdict v (Sending.sentFor bytes start) Sending.refused
+        → first (Sending.sendChecks bytes start room) ≡ accepted
+    go accepted q e = q
+    go (refused n p) q e = absurd (let z : _≡_ {A = ℕ} 0 1 = cc in omega arith)
+
+-- 33 line bytes for each group
+length-line : (bytes : List ℕ) (start : ℕ) → length (sentLine bytes start) ≡ 33 * (length bytes / 40)
+unfolding sentLine
+length-line bytes start = length-cut 8 (33 * (length bytes / 40)) (streamBit 66 (lineWords (mirror start) (blocksFor bytes)))
+
+-- an answer with the document's values is the function's answer with these values
+received-is : (r : Received) (n : ℕ) → Receiving.answerOf r ≡ Receiving.received n 0 true false n
+    → r ≡ Received.Done (record { tested = n; slips = 0; locked = true; high = false; vectors = n })
+received-is (Received.Done x) n e =
+    let tested : x .tested ≡ n = cc in
+    let slips : x .slips ≡ 0 = cc in
+    let locked : x .locked ≡ true = cc in
+    let high : x .high ≡ false = cc in
+    let vectors : x .vectors ≡ n = cc in
+    λ i. Received.Done (record { tested = tested i; slips = slips i; locked = locked i; high = high i; vectors = vectors i })
+received-is (Received.Refused why place) n e = absurd (let z : _≡_ {A = ℕ} 0 1 = cc in omega arith)
+
+module _ (bytes : List ℕ) (start : ℕ) (room room′ : List ℕ) (s : Sending) (sends : Sends bytes start room (Sent.Done s) room′)
+    (list : Returnable (Send.vectorsOf bytes)) where
+  -- sending accepted
+  ok : accepts bytes start (length room)
+  ok = done-accepts bytes start (length room) s (sends .0)
+
+  -- the line stands at the start of the room
+  line-stands : take (33 * (length bytes / 40)) room′ ≡ sentLine bytes start
+  unfolding Sending.sendRoom
+  line-stands =
+      ap (take (33 * (length bytes / 40)))
+      (sends .1
+      ∙ ap (λ (v : Verdict). byVerdict v (sentLine bytes start ++ drop (length (sentLine bytes start)) room) (λ number place. room)) ok)
+      ∙ take-at (sentLine bytes start) (drop (length (sentLine bytes start)) room) (33 * (length bytes / 40)) (length-line bytes start)
+
+  module _ (out out′ : List ℕ) (r : Received) (receives : Receives (take (33 * (length bytes / 40)) room′) out r out′) (enough : length bytes ≤ length out) where
+    -- so what was received is the line
+    receives-line : Receives (sentLine bytes start) out r out′
+    receives-line = subst (λ (line : List ℕ). Receives line out r out′) line-stands receives
+
+    -- neither refusal of receiving applies
+    received-too : first (Receiving.receiveChecks (length (sentLine bytes start)) (length out)) ≡ accepted
+    unfolding first Receiving.receiveChecks
+    received-too =
+        rw (
+          length-line bytes start,
+          le-ltb 825000 (33 * (length bytes / 40)) (omega (arith, not-long bytes start (length room) ok)),
+          le-ltb (length out) (10 * (8 * (33 * (length bytes / 40)) / 66)) (omega (arith, enough)),
+        )
+
+    -- the answer
+    answer-is : r ≡ Received.Done (record { tested = length (Send.vectorsOf bytes); slips = 0; locked = true; high = false; vectors = length (Send.vectorsOf bytes) })
+    unfolding Receiving.receiveAnswer
+    answer-is =
+        received-is r (length (Send.vectorsOf bytes))
+        (receives-line .0
+        ∙ ap (λ (v : Verdict). byVerdict v (Receiving.receivedFor (sentLine bytes start)) Receiving.refused) received-too
+        ∙ demand-2 bytes start (length room) ok list .answer)
+
+    -- 64 vectors and more
+    many : 640 ≤ length bytes
+    many = omega (arith, list .long, length-vectors (length bytes / 10) bytes)
+
+    -- as many bytes come back as were sent
+    length-octets : length (flatten faults ++ drop 630 bytes) ≡ length bytes
+    unfolding flatten
+    length-octets = length-append (flatten faults) (drop 630 bytes) ∙ ap (λ (n : ℕ). 630 + n) (length-drop 630 bytes) ∙ omega (arith, many)
+
+    -- the room
+    room-is : out′ ≡ flatten faults ++ drop 630 bytes ++ drop (length bytes) out
+    unfolding Receiving.receiveRoom
+    room-is =
+        receives-line .1
+        ∙ ap
+        (λ (v : Verdict). byVerdict v
+        (Receive.receivedVectors (sentLine bytes start) ++ drop (length (Receive.receivedVectors (sentLine bytes start))) out)
+        (λ number place. out))
+        received-too
+        ∙ ap (λ (xs : List ℕ). xs ++ drop (length xs) out) (demand-2 bytes start (length room) ok list .octets)
+        ∙ ap (λ (n : ℕ). flatten faults ++ drop 630 bytes ++ drop n out) length-octets
+
+-- demand 2 of the functions
+pub demand-2-of-calls : Demand2OfCalls
+demand-2-of-calls bytes start room room′ s sends list out out′ r receives enough =
+    (answer-is bytes start room room′ s sends list out out′ r receives enough, room-is bytes start room room′ s sends list out out′ r receives enough)

@@ -1,0 +1,59 @@
+-- A fresh receiver over a line of blocks with 64 valid headers first and fewer than 16 invalid ones in all. Assumes nothing.
+use mathlib.Core.Path.{_≡_, refl, ap, _∙_}
+use mathlib.Core.Bool.{true, false}
+use mathlib.Core.List.{List, [], _∷_, map}
+use Prim.Native.Nat.{ℕ, suc, _*_, _<_}
+use lib.ListN.{length, length-map}
+use Rattle.bits.specs.Bits.{streamBit, cut}
+use Rattle.line.specs.declared.Block.{Block}
+use Rattle.line.specs.Word.{word}
+use Rattle.diagrams.specs.declared.State.{State}
+use Rattle.diagrams.specs.declared.State.the-variants.{Init}
+use Rattle.receiving.specs.Machine.{Tested, run, at, linkFresh}
+use Rattle.receiving.specs.Receive.{answers, runOf, vectorsOf}
+use Rattle.receiving.specs.Answer.{received, receivedFor}
+use Rattle.demands.proofs.Line.{line-bits, AllFit}
+use Rattle.demands.proofs.Runs.{linkAfter, testedAll, valids, run-words, length-tested, slips-none}
+use Rattle.demands.proofs.Lock.{FirstValid, invalids, Locks, lock-by-64}
+
+-- one vector for each tested block
+pub length-answers : (s : State) (ts : List Tested) → length (answers s ts) ≡ length ts
+unfolding answers
+length-answers s [] = refl
+length-answers s (t ∷ ts) = ap suc (length-answers _ ts)
+
+module _ (bs : List Block) (groups : ℕ) (fits : AllFit bs) (four : length bs ≡ 4 * groups)
+    (first : FirstValid 64 (valids bs)) (few : invalids (valids bs) < 16) where
+  -- four blocks in 33 bytes
+  abbrev line : List ℕ
+  line = cut 8 (streamBit 66 (map word bs)) (33 * groups)
+
+  -- the receiver locks with block 63
+  locks : Locks 63 linkFresh bs
+  locks = lock-by-64 bs first few
+
+  -- each block is tested at its own place
+  pub fresh-run : runOf line ≡ record { tested = testedAll linkFresh bs; end = at (linkAfter linkFresh bs) }
+  unfolding runOf
+  fresh-run =
+      ap (run (at linkFresh)) (line-bits (map word bs) groups (length-map bs word ∙ four))
+      ∙ run-words linkFresh bs fits (locks .steady)
+
+  -- its vectors are those of these blocks
+  pub fresh-vectors : vectorsOf line ≡ answers Init (testedAll linkFresh bs)
+  unfolding vectorsOf
+  fresh-vectors = rw fresh-run
+
+  -- as many are tested as there are blocks, with no slip, and the receiver ends locked and not high
+  pub fresh-answer : receivedFor line ≡ received (length bs) 0 true false (length bs)
+  unfolding receivedFor
+  fresh-answer =
+      rw (
+        fresh-vectors,
+        fresh-run,
+        length-answers Init (testedAll linkFresh bs),
+        length-tested linkFresh bs,
+        slips-none linkFresh bs (locks .steady),
+        locks .locked,
+        locks .calm,
+      )

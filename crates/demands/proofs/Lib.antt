@@ -1,0 +1,14 @@
+pub mod Line
+pub mod Runs
+pub mod Lock
+pub mod Fresh
+pub mod Descrambling
+pub mod Answers
+pub mod Octets
+pub mod Sent
+pub mod Accepted
+pub mod Demand1
+pub mod ThroughC
+pub mod Demand2
+pub mod Calls
+pub mod Witness

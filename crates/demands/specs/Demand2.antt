@@ -1,0 +1,52 @@
+-- Demand 2, the round trip. For every list of vectors that sending accepts, from any start state that it allows, that is legal, whose
+-- first 64 vectors are control vectors and whose last does not end a frame: a fresh receiver over the sent line gives 63 Local Fault
+-- vectors and then the list from vector 63 on, unchanged; tested is the number of vectors, slips 0, locked 1 and high 0.
+use Prim.Native.Nat.{ℕ, _*_, _/_, _≤_}
+use mathlib.Core.Path.{_≡_}
+use mathlib.Core.Bool.{true, false}
+use mathlib.Core.List.{List, _++_, flatten}
+use lib.ListN.{length, take, drop, replicate}
+use Rattle.block.specs.Block.{localFaultVector}
+use Rattle.sending.specs.Send as Send
+use Rattle.sending.specs.declared.Sending.{Sending}
+use Rattle.sending.specs.declared.Sent.the-variants as Sent
+use Rattle.receiving.specs.Receive as Receive
+use Rattle.receiving.specs.Answer.{received, receivedFor}
+use Rattle.receiving.specs.declared.Received.{Received}
+use Rattle.receiving.specs.declared.Received.the-variants as Received
+use Rattle.demands.specs.Words.{accepts, legal, controlVectors, lastEndsFrame}
+use Rattle.demands.specs.Promises.{Sends, Receives}
+
+-- the lists that the demand speaks of: legal, the first 64 control vectors (so there are 64), the last not the end of a frame
+pub record Returnable (vectors : List (List ℕ)) : Type 0 where
+  pub is-legal : legal vectors ≡ true
+  pub long : 64 ≤ length vectors
+  pub starts-with-control : controlVectors (take 64 vectors) ≡ true
+  pub ends-no-frame : lastEndsFrame vectors ≡ false
+
+-- 63 Local Fault vectors
+abbrev pub faults : List (List ℕ)
+faults = replicate 63 localFaultVector
+
+-- what a fresh receiver gives for the line that was sent: its vectors, their bytes, and what it returns
+pub record Returned (bytes : List ℕ) (start : ℕ) : Type 0 where
+  pub vectors : Receive.vectorsOf (Send.sentLine bytes start) ≡ faults ++ drop 63 (Send.vectorsOf bytes)
+  pub octets : Receive.receivedVectors (Send.sentLine bytes start) ≡ flatten faults ++ drop 630 bytes
+  pub answer : receivedFor (Send.sentLine bytes start) ≡ received (length (Send.vectorsOf bytes)) 0 true false (length (Send.vectorsOf bytes))
+
+-- the demand
+abbrev pub Demand2 : Type 0
+Demand2 = (bytes : List ℕ) (start room : ℕ) → accepts bytes start room → Returnable (Send.vectorsOf bytes) → Returned bytes start
+
+-- The same of the functions. `send` was lent `room`, answered success and left `room′`; then `receive` was lent the line that stands
+-- there, four vectors in 33 bytes, and room for as many bytes as were sent.
+abbrev pub Demand2OfCalls : Type 0
+Demand2OfCalls =
+    (bytes : List ℕ) (start : ℕ) (room room′ : List ℕ) (s : Sending)
+    → Sends bytes start room (Sent.Done s) room′
+    → Returnable (Send.vectorsOf bytes)
+    → (out out′ : List ℕ) (r : Received)
+    → Receives (take (33 * (length bytes / 40)) room′) out r out′
+    → length bytes ≤ length out
+    → (r ≡ Received.Done (record { tested = length (Send.vectorsOf bytes); slips = 0; locked = true; high = false; vectors = length (Send.vectorsOf bytes) }))
+    × (out′ ≡ flatten faults ++ drop 630 bytes ++ drop (length bytes) out)

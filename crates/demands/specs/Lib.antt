@@ -1,0 +1,5 @@
+pub mod Words
+pub mod Promises
+pub mod Demand1
+pub mod ThroughC
+pub mod Demand2

@@ -1,0 +1,69 @@
+-- The words of demand 2, over the definitions of sending: document 01, 'Diagrams' and 'Refusal numbers'.
+use Prim.Native.Nat.{ℕ}
+use mathlib.Core.Path.{_≡_}
+use mathlib.Core.Bool.{Bool, true, false, not, _&&_}
+use mathlib.Core.List.{List, [], _∷_}
+use Rattle.refusals.specs.First.{first, accepted}
+use Rattle.block.specs.Block.{vectorKind}
+use Rattle.block.specs.declared.Kind.{Kind}
+use Rattle.block.specs.declared.Kind.the-variants.{D, C, S, T, E}
+use Rattle.diagrams.specs.Diagram.{transmitOf}
+use Rattle.diagrams.specs.declared.State.{State}
+use Rattle.diagrams.specs.declared.State.the-variants.{Init, Control, Data, Terminate, Error}
+use Rattle.sending.specs.Answer.{sendChecks}
+
+-- Sending accepts vector bytes, from a start state and with room for the line: none of its refusals applies.
+abbrev pub accepts : (bytes : List ℕ) (start room : ℕ) → Type 0
+accepts bytes start room = first (sendChecks bytes start room) ≡ accepted
+
+-- state E of the diagrams
+abbrev pub isError : State → Bool
+isError Init = false
+isError Control = false
+isError Data = false
+isError Terminate = false
+isError Error = true
+
+-- "A list is legal when no vector leads to E.": from a state of the transmit diagram, and "from INIT"
+unfoldable pub legalFrom : State → List (List ℕ) → Bool
+legalFrom s [] = true
+legalFrom s (v ∷ vs) =
+    let s′ = transmitOf s (vectorKind v) in
+    not (isError s′) && legalFrom s′ vs
+
+abbrev pub legal : List (List ℕ) → Bool
+legal vectors = legalFrom Init vectors
+
+-- kind C, and kind T
+abbrev pub isControl : Kind → Bool
+isControl D = false
+isControl C = true
+isControl S = false
+isControl T = false
+isControl E = false
+
+abbrev pub isTerminate : Kind → Bool
+isTerminate D = false
+isTerminate C = false
+isTerminate S = false
+isTerminate T = true
+isTerminate E = false
+
+-- "A control vector is one of kind C."
+unfoldable pub controlVector : List ℕ → Bool
+controlVector v = isControl (vectorKind v)
+
+-- every vector of a list is a control vector
+unfoldable pub controlVectors : List (List ℕ) → Bool
+controlVectors [] = true
+controlVectors (v ∷ vs) = controlVector v && controlVectors vs
+
+-- A vector ends a frame when it is one of kind T.
+unfoldable pub endsFrame : List ℕ → Bool
+endsFrame v = isTerminate (vectorKind v)
+
+-- whether the last vector of a list ends a frame
+unfoldable pub lastEndsFrame : List (List ℕ) → Bool
+lastEndsFrame [] = false
+lastEndsFrame (v ∷ []) = endsFrame v
+lastEndsFrame (v ∷ w ∷ vs) = lastEndsFrame (w ∷ vs)
