@@ -1,0 +1,63 @@
+//! The fast version keeps the library's contract: same result and same bytes, on many short calls, refused ones too.
+use crate::fast;
+use compare::library;
+use compare::lines::Line;
+use compare::lists;
+use compare::random::Random;
+
+/// Calls both with lent slices of these lengths.
+fn same(room: usize, summary_room: usize, call: impl Fn(&mut [u8], &mut [u8], bool) -> u64) {
+    let mut outs = [vec![0xa5; room], vec![0xa5; room]];
+    let mut summaries = [vec![0x5a; summary_room], vec![0x5a; summary_room]];
+    let results = [0, 1].map(|i| call(&mut outs[i], &mut summaries[i], i == 0));
+    assert!(results[0] == results[1] && outs[0] == outs[1] && summaries[0] == summaries[1], "the fast version differs");
+}
+
+fn sending(random: &mut Random) {
+    let mut vectors = lists::list(4 * random.below(30), random.pick(&[0, 300]), random);
+    if random.once_in(8) {
+        vectors.truncate(vectors.len().saturating_sub(7));
+    }
+    if random.once_in(8) && !vectors.is_empty() {
+        let word = random.below(vectors.len().div_ceil(5));
+        vectors[5 * word] |= 16;
+    }
+    let start = random.start_state() + if random.once_in(8) { 1 << 58 } else { 0 };
+    let room = (vectors.len() / 40 * 33 + 3).saturating_sub(random.below(5));
+    same(room, 27 - random.below(5), |line, summary, by_library| {
+        let send = if by_library { library::send } else { fast::send };
+        send(&vectors, start, line, summary)
+    });
+}
+
+fn receiving(random: &mut Random) {
+    let vectors = lists::list_after_lock(4 * random.below(100), 20, random);
+    let mut line = Line::of_list(&vectors, random.start_state());
+    line.cut(0, random.below(66).min(line.bits.len()));
+    if !line.bits.is_empty() {
+        line.flip_some(random.below(40), 0, random);
+    }
+    let line = line.bytes();
+    let room = (8 * line.len() / 66 * 10 + 3).saturating_sub(random.below(5));
+    same(room, 43 - random.below(5), |vectors, summary, by_library| {
+        let receive = if by_library { library::receive } else { fast::receive };
+        receive(&line, vectors, summary)
+    });
+}
+
+pub fn check() {
+    let mut random = Random::new(3);
+    for _ in 0..2_000 {
+        sending(&mut random);
+        receiving(&mut random);
+    }
+    let too_long = vec![0; 1_000_040];
+    same(825_033, 24, |line, summary, by_library| {
+        let send = if by_library { library::send } else { fast::send };
+        send(&too_long, 0, line, summary)
+    });
+    same(1_000_010, 40, |vectors, summary, by_library| {
+        let receive = if by_library { library::receive } else { fast::receive };
+        receive(&too_long[..825_001], vectors, summary)
+    });
+}

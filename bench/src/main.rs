@@ -1,0 +1,92 @@
+//! The library beside a hand-written, word-parallel Rust version: same machine, same run, same input, both built for release, the
+//! buffers warm, the best of many calls. Nothing is timed before both have given the same bytes.
+mod agree;
+mod fast;
+mod traffic;
+
+use compare::library;
+use std::hint::black_box;
+use std::time::Instant;
+
+const CALLS: usize = 200;
+
+/// Seconds of the best call of each of two, called in turn.
+fn best(mut one: impl FnMut(), mut other: impl FnMut()) -> [f64; 2] {
+    let mut best = [f64::MAX; 2];
+    for _ in 0..CALLS {
+        let began = Instant::now();
+        one();
+        best[0] = best[0].min(began.elapsed().as_secs_f64());
+        let began = Instant::now();
+        other();
+        best[1] = best[1].min(began.elapsed().as_secs_f64());
+    }
+    best
+}
+
+/// One row of the table: a direction and a line, and how many blocks that is.
+struct Row<'a> {
+    direction: &'a str,
+    line: &'a str,
+    blocks: u64,
+}
+
+impl Row<'_> {
+    fn print(&self, seconds: [f64; 2]) {
+        let ns = seconds.map(|s| s * 1e9 / self.blocks as f64);
+        println!(
+            "| {} | {} | {:.2} | {:.1} | {:.2} | {:.1} | {:.2} |",
+            self.direction,
+            self.line,
+            ns[0],
+            66.0 / ns[0],
+            ns[1],
+            66.0 / ns[1],
+            ns[0] / ns[1]
+        );
+    }
+
+    /// Times one call of the library and of the fast version, each on buffers of its own, after a look that they agree.
+    fn time(
+        &self,
+        room: usize,
+        library: impl Fn(&mut [u8], &mut [u8]) -> u64,
+        fast: impl Fn(&mut [u8], &mut [u8]) -> u64,
+    ) {
+        let [mut out, mut fast_out] = [vec![0; room], vec![0; room]];
+        let [mut summary, mut fast_summary] = [[0; 40]; 2];
+        let results = [library(&mut out, &mut summary), fast(&mut fast_out, &mut fast_summary)];
+        let same = results == [0, 0] && out == fast_out && summary == fast_summary;
+        assert!(same, "{} {}: they differ", self.direction, self.line);
+        let seconds = best(
+            || _ = black_box(library(black_box(&mut out), black_box(&mut summary))),
+            || _ = black_box(fast(black_box(&mut fast_out), black_box(&mut fast_summary))),
+        );
+        self.print(seconds);
+    }
+}
+
+fn main() {
+    agree::check();
+    println!("| | line | library, ns a block | Gbit/s | hand-written, ns a block | Gbit/s | ratio |");
+    println!("|---|---|---|---|---|---|---|");
+    let all = traffic::all();
+    for t in &all {
+        let row = Row { direction: "send", line: t.name, blocks: t.vectors.len() as u64 / 10 };
+        row.time(
+            t.vectors.len() / 40 * 33,
+            |out, summary| library::send(&t.vectors, 0, out, summary),
+            |out, summary| fast::send(&t.vectors, 0, out, summary),
+        );
+    }
+    for t in &all {
+        let line = t.line.clone().unwrap_or_else(|| library::sent(&t.vectors, 0).0);
+        let (_, summary) = library::received(&line);
+        let row = Row { direction: "receive", line: t.name, blocks: library::word(&summary, 0) };
+        row.time(
+            8 * line.len() / 66 * 10,
+            |out, summary| library::receive(&line, out, summary),
+            |out, summary| fast::receive(&line, out, summary),
+        );
+    }
+}

@@ -1,0 +1,57 @@
+//! The four lines that are timed, 100,000 blocks each.
+use compare::lists;
+use compare::random::Random;
+
+const BLOCKS: usize = 100_000;
+const IDLE: (bool, u8) = (true, 0x07);
+
+pub struct Traffic {
+    pub name: &'static str,
+    /// What is sent.
+    pub vectors: Vec<u8>,
+    /// What is received where it is not the line of the vectors.
+    pub line: Option<Vec<u8>>,
+}
+
+pub fn all() -> Vec<Traffic> {
+    let mut random = Random::new(1);
+    let noise = (0..BLOCKS).flat_map(|_| lists::any(&mut random)).collect();
+    let noisy_line = random.bytes(BLOCKS / 4 * 33);
+    vec![
+        Traffic { name: "all idle", vectors: lists::idle().repeat(BLOCKS), line: None },
+        Traffic { name: "1,500-octet frames", vectors: frames(|_| 1_500), line: None },
+        Traffic { name: "64-octet frames", vectors: frames(|n| 64 + n % 8), line: None },
+        Traffic { name: "noise", vectors: noise, line: Some(noisy_line) },
+    ]
+}
+
+/// 64 vectors of idles, then frames back to back: Start and preamble, octets, Terminate and eleven idles, then idles up to a word.
+/// Sizes that differ by up to seven put Terminate at all eight positions.
+fn frames(size: impl Fn(usize) -> usize) -> Vec<u8> {
+    let mut random = Random::new(2);
+    let mut characters = vec![IDLE; 64 * 8];
+    for n in 0.. {
+        characters.push((true, 0xfb));
+        characters.extend([(false, 0x55); 6]);
+        characters.push((false, 0xd5));
+        characters.extend((0..size(n)).map(|_| (false, random.byte())));
+        characters.push((true, 0xfd));
+        characters.extend([IDLE; 11]);
+        characters.resize(characters.len().next_multiple_of(4), IDLE);
+        if characters.len() >= 8 * BLOCKS {
+            break;
+        }
+    }
+    words(&characters[..8 * BLOCKS])
+}
+
+/// Characters as words: a control byte, then four lanes.
+fn words(characters: &[(bool, u8)]) -> Vec<u8> {
+    characters
+        .chunks(4)
+        .flat_map(|lanes| {
+            let control = (0..4).map(|i| (lanes[i].0 as u8) << i).sum();
+            [control, lanes[0].1, lanes[1].1, lanes[2].1, lanes[3].1]
+        })
+        .collect()
+}

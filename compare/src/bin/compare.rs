@@ -1,0 +1,100 @@
+//! Compares the library with the second program: `compare [--seed N] [--only GROUP] [--soak]`. The seed fixes everything; --soak goes
+//! on with one seed after another until a difference is found.
+use compare::calls::{Calls, Tally};
+use compare::groups::{Group, GROUPS};
+use std::process::ExitCode;
+use std::time::{Instant, SystemTime};
+
+struct Options {
+    seed: u64,
+    only: Option<String>,
+    soak: bool,
+}
+
+fn options() -> Result<Options, String> {
+    let mut options = Options { seed: 1, only: None, soak: false };
+    let mut words = std::env::args().skip(1);
+    let mut seeded = false;
+    while let Some(word) = words.next() {
+        let mut value = || words.next().ok_or(format!("{word} wants a value"));
+        match word.as_str() {
+            "--seed" => {
+                options.seed = value()?.parse().map_err(|_| "a seed is a number".to_string())?;
+                seeded = true;
+            }
+            "--only" => options.only = Some(value()?),
+            "--soak" => options.soak = true,
+            _ => return Err(format!("compare [--seed N] [--only GROUP] [--soak], and not {word}")),
+        }
+    }
+    if options.soak && !seeded {
+        let now = SystemTime::now().duration_since(SystemTime::UNIX_EPOCH).unwrap();
+        options.seed = now.as_secs();
+    }
+    Ok(options)
+}
+
+/// Runs a group and says what it compared, or what differed.
+fn run(group: &Group, seed: u64, total: &mut Tally) -> bool {
+    let began = Instant::now();
+    let mut calls = Calls::new(seed);
+    let outcome = (group.run)(&mut calls);
+    let t = calls.tally;
+    total.add(&t);
+    println!(
+        "{:<11} {:>9} {:>9} {:>9} {:>9} {:>8} {:>6.1} s  {}",
+        group.name,
+        t.sends,
+        t.sent,
+        t.receives,
+        t.received,
+        t.refusals,
+        began.elapsed().as_secs_f64(),
+        group.says
+    );
+    if let Err(difference) = &outcome {
+        println!("DIFFERENT: {difference}\n  again: compare --seed {seed} --only '{}'", group.name);
+    }
+    outcome.is_ok()
+}
+
+/// Runs the groups once; the number of those that passed and that failed.
+fn round(options: &Options, seed: u64) -> (usize, usize) {
+    println!("seed {seed}");
+    println!("{:<11} {:>9} {:>9} {:>9} {:>9} {:>8}", "group", "sends", "blocks", "receives", "blocks", "refused");
+    let mut total = Tally::default();
+    let (mut passed, mut failed) = (0, 0);
+    for group in &GROUPS {
+        if options.only.as_ref().is_some_and(|name| name != group.name) {
+            continue;
+        }
+        if run(group, seed, &mut total) {
+            passed += 1;
+        } else {
+            failed += 1;
+        }
+    }
+    println!("compared: {} blocks sent, {} blocks received, {} refusals", total.sent, total.received, total.refusals);
+    (passed, failed)
+}
+
+fn main() -> ExitCode {
+    let options = match options() {
+        Ok(options) => options,
+        Err(words) => {
+            eprintln!("{words}");
+            return ExitCode::from(2);
+        }
+    };
+    let (mut passed, mut failed) = round(&options, options.seed);
+    let mut seed = options.seed;
+    while options.soak && failed == 0 {
+        seed += 1;
+        (passed, failed) = round(&options, seed);
+    }
+    println!("{passed} passed, {failed} failed");
+    if passed == 0 || failed > 0 {
+        return ExitCode::FAILURE;
+    }
+    ExitCode::SUCCESS
+}

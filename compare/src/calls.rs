@@ -1,0 +1,153 @@
+//! One call of the library beside the same call of the second program: result, every byte of every lent slice, and the bytes
+//! before and behind each slice.
+use crate::library;
+use crate::random::Random;
+use crate::reference::{receiving, sending, Refusal};
+
+/// Bytes before and behind a lent slice that nobody may touch. Odd, so that slices stand at odd addresses too.
+const GUARD: usize = 37;
+
+/// A slice that is lent: a guard, the slice, a guard.
+struct Lent {
+    bytes: Vec<u8>,
+    before: usize,
+    len: usize,
+}
+
+impl Lent {
+    fn new(content: &[u8], random: &mut Random) -> Lent {
+        let before = GUARD + random.below(16);
+        let mut bytes = random.bytes(before);
+        bytes.extend(content);
+        bytes.extend(random.bytes(GUARD));
+        Lent { bytes, before, len: content.len() }
+    }
+
+    fn slice(&mut self) -> &mut [u8] {
+        &mut self.bytes[self.before..self.before + self.len]
+    }
+
+    /// These bytes with `content` from the slice's start: what they should be after the call.
+    fn with(&self, content: &[u8]) -> Vec<u8> {
+        let mut bytes = self.bytes.clone();
+        bytes[self.before..self.before + content.len()].copy_from_slice(content);
+        bytes
+    }
+}
+
+/// What was compared.
+#[derive(Default, Clone, Copy)]
+pub struct Tally {
+    pub sends: u64,
+    pub sent: u64,
+    pub receives: u64,
+    pub received: u64,
+    pub refusals: u64,
+}
+
+impl Tally {
+    pub fn add(&mut self, other: &Tally) {
+        self.sends += other.sends;
+        self.sent += other.sent;
+        self.receives += other.receives;
+        self.received += other.received;
+        self.refusals += other.refusals;
+    }
+}
+
+/// Makes calls and counts them. A difference is an `Err` that says what differed.
+pub struct Calls {
+    pub random: Random,
+    pub tally: Tally,
+}
+
+pub type Outcome = Result<(), String>;
+
+impl Calls {
+    pub fn new(seed: u64) -> Calls {
+        Calls { random: Random::new(seed), tally: Tally::default() }
+    }
+
+    /// Sends with exactly the room that is asked for.
+    pub fn send(&mut self, vectors: &[u8], start: u64) -> Outcome {
+        self.send_into(vectors, start, vectors.len() / 40 * 33, sending::SUMMARY_BYTES)
+    }
+
+    /// Receives with exactly the room that is asked for.
+    pub fn receive(&mut self, line: &[u8]) -> Outcome {
+        self.receive_into(line, 8 * line.len() / 66 * 10, receiving::SUMMARY_BYTES)
+    }
+
+    /// Sends a list, and receives what the second program sends of it.
+    pub fn both_ways(&mut self, vectors: &[u8], start: u64) -> Outcome {
+        self.send(vectors, start)?;
+        let sent = sending::send(vectors, start, usize::MAX, usize::MAX).ok().unwrap();
+        self.receive(&sent.line)
+    }
+
+    pub fn send_into(&mut self, vectors: &[u8], start: u64, room: usize, summary_room: usize) -> Outcome {
+        let mut input = Lent::new(vectors, &mut self.random);
+        let mut line = Lent::new(&vec![0xa5; room], &mut self.random);
+        let mut summary = Lent::new(&vec![0x5a; summary_room], &mut self.random);
+        let answer = sending::send(vectors, start, room, summary_room);
+        let (result, output, words) = match &answer {
+            Ok(sent) => (0, sent.line.clone(), sent.summary()),
+            Err(refusal) => self.refusal(*refusal, sending::SUMMARY_BYTES, summary_room),
+        };
+        let expected = [input.bytes.clone(), line.with(&output), summary.with(&words)];
+        let got = library::send(input.slice(), start, line.slice(), summary.slice());
+        self.tally.sends += 1;
+        self.tally.sent += output.len() as u64 / 33 * 4;
+        same(
+            &format!("sending {} bytes from state {start:#x}, room {room}, summary {summary_room}", vectors.len()),
+            ["vectors", "line", "summary"],
+            (result, &expected),
+            (got, &[input, line, summary]),
+        )
+    }
+
+    pub fn receive_into(&mut self, line: &[u8], room: usize, summary_room: usize) -> Outcome {
+        let mut input = Lent::new(line, &mut self.random);
+        let mut vectors = Lent::new(&vec![0xa5; room], &mut self.random);
+        let mut summary = Lent::new(&vec![0x5a; summary_room], &mut self.random);
+        let answer = receiving::receive(line, room, summary_room);
+        let (result, output, words) = match &answer {
+            Ok(received) => (0, received.vectors.clone(), received.summary()),
+            Err(refusal) => self.refusal(*refusal, receiving::SUMMARY_BYTES, summary_room),
+        };
+        let expected = [input.bytes.clone(), vectors.with(&output), summary.with(&words)];
+        let got = library::receive(input.slice(), vectors.slice(), summary.slice());
+        self.tally.receives += 1;
+        self.tally.received += output.len() as u64 / 10;
+        same(
+            &format!("receiving {} bytes, room {room}, summary {summary_room}", line.len()),
+            ["line", "vectors", "summary"],
+            (result, &expected),
+            (got, &[input, vectors, summary]),
+        )
+    }
+
+    /// What a refusal gives: its result, no bytes, and zeros in a summary that has room for them.
+    fn refusal(&mut self, refusal: Refusal, words: usize, room: usize) -> (u64, Vec<u8>, Vec<u8>) {
+        self.tally.refusals += 1;
+        let zeros = if room < words { 0 } else { words };
+        (refusal.number + 256 * refusal.place as u64, Vec::new(), vec![0; zeros])
+    }
+}
+
+/// Compares result and slices, guards included.
+fn same(call: &str, names: [&str; 3], expected: (u64, &[Vec<u8>; 3]), got: (u64, &[Lent; 3])) -> Outcome {
+    if got.0 != expected.0 {
+        return Err(format!("{call}: result {} and not {}", got.0, expected.0));
+    }
+    for ((name, expected), got) in names.iter().zip(expected.1).zip(got.1) {
+        if let Some(i) = (0..expected.len()).find(|i| got.bytes[*i] != expected[*i]) {
+            let place = i as i64 - got.before as i64;
+            return Err(format!(
+                "{call}: byte {place} of {name} (of {}) is {:02x} and not {:02x}",
+                got.len, got.bytes[i], expected[i]
+            ));
+        }
+    }
+    Ok(())
+}

@@ -1,0 +1,28 @@
+//! The groups of comparisons. Each is given calls to make, and random numbers with them; the first difference ends it.
+mod blocks;
+mod damage;
+mod lists;
+mod refusals;
+
+use crate::calls::{Calls, Outcome};
+
+pub struct Group {
+    pub name: &'static str,
+    pub says: &'static str,
+    pub run: fn(&mut Calls) -> Outcome,
+}
+
+pub const GROUPS: [Group; 12] = [
+    Group { name: "types", says: "every header and type byte in lock, edge and random payloads", run: blocks::types },
+    Group { name: "octets", says: "all 256 octets in each character position of each format", run: blocks::octets },
+    Group { name: "codes", says: "every code in each field of each format, unused bits set", run: blocks::codes },
+    Group { name: "lists", says: "legal and illegal lists from random start states", run: lists::short },
+    Group { name: "long lists", says: "lists of up to 100,000 vectors", run: lists::long },
+    Group { name: "flips", says: "lines with 0 to 3 flipped bits", run: damage::flips },
+    Group { name: "noise", says: "bursts of noise, and nothing but noise", run: damage::noise },
+    Group { name: "slips", says: "lines at each of the 66 positions, bits lost and added", run: damage::slips },
+    Group { name: "lock", says: "invalid headers at rates that lose lock", run: damage::lock },
+    Group { name: "rate", says: "invalid headers at rates that reach high, window ends", run: damage::rate },
+    Group { name: "truncated", says: "lines cut at any byte", run: damage::truncated },
+    Group { name: "refusals", says: "every refusal, room one byte short and exact", run: refusals::refusals },
+];

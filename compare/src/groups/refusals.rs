@@ -1,0 +1,85 @@
+//! Every refusal, alone and with others, with the lent slices one byte short, exact and longer.
+use crate::calls::{Calls, Outcome};
+use crate::lists::list;
+use crate::random::Random;
+
+/// Lengths around one that is wanted: one short (where it can be), exact, one more, and more.
+fn around(wanted: usize) -> Vec<usize> {
+    let mut lengths = vec![wanted, wanted + 1, wanted + 40];
+    if wanted > 0 {
+        lengths.extend([0, wanted / 2, wanted - 1]);
+    }
+    lengths
+}
+
+pub fn refusals(calls: &mut Calls) -> Outcome {
+    sending(calls)?;
+    first_control_byte(calls)?;
+    receiving(calls)
+}
+
+fn spoil_control_byte(vectors: &mut [u8], random: &mut Random) {
+    if !vectors.is_empty() {
+        let word = random.below(vectors.len().div_ceil(5));
+        vectors[5 * word] = 16 + random.below(240) as u8;
+    }
+}
+
+fn sending(calls: &mut Calls) -> Outcome {
+    for length in [0, 1, 10, 39, 40, 41, 80, 400, 999_960, 999_999, 1_000_000, 1_000_001, 1_000_040] {
+        let mut vectors = list(length / 40 * 4, 100, &mut calls.random);
+        vectors.resize(length, 0);
+        for spoilt in [false, true] {
+            if spoilt {
+                spoil_control_byte(&mut vectors, &mut calls.random);
+            }
+            for start in [0, (1 << 58) - 1, 1 << 58, u64::MAX] {
+                send_around(calls, &vectors, start)?;
+            }
+        }
+    }
+    Ok(())
+}
+
+/// All rooms and summaries of a short list, and some of a long one.
+fn send_around(calls: &mut Calls, vectors: &[u8], start: u64) -> Outcome {
+    for room in around(vectors.len() / 40 * 33) {
+        for summary in around(24) {
+            if vectors.len() < 1_000 || calls.random.once_in(12) {
+                calls.send_into(vectors, start, room, summary)?;
+            }
+        }
+    }
+    Ok(())
+}
+
+/// A control byte above 15 at each word of a list, and two at once: the first is the place.
+fn first_control_byte(calls: &mut Calls) -> Outcome {
+    for word in 0..48 {
+        let mut vectors = list(24, 0, &mut calls.random);
+        vectors[5 * word] = 16 << calls.random.below(4);
+        calls.send(&vectors, 0)?;
+        spoil_control_byte(&mut vectors, &mut calls.random);
+        calls.send(&vectors, 0)?;
+    }
+    for _ in 0..20 {
+        let mut vectors = list(400, 0, &mut calls.random);
+        spoil_control_byte(&mut vectors, &mut calls.random);
+        calls.send(&vectors, 0)?;
+    }
+    Ok(())
+}
+
+fn receiving(calls: &mut Calls) -> Outcome {
+    for length in [0, 1, 8, 9, 16, 17, 33, 66, 528, 824_999, 825_000, 825_001, 900_000] {
+        let line = calls.random.bytes(length);
+        for room in around(8 * length / 66 * 10) {
+            for summary in around(40) {
+                if length < 1_000 || calls.random.once_in(6) {
+                    calls.receive_into(&line, room, summary)?;
+                }
+            }
+        }
+    }
+    Ok(())
+}

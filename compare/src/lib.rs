@@ -1,0 +1,8 @@
+//! The library beside an independent second program, compared byte for byte.
+pub mod calls;
+pub mod groups;
+pub mod library;
+pub mod lines;
+pub mod lists;
+pub mod random;
+pub mod reference;

@@ -1,0 +1,74 @@
+//! The library, through its C boundary: the declarations of include/holzmotte.h and safe functions over them.
+
+extern "C" {
+    fn holzmotte_send(
+        vectors: *const u8,
+        vectors_len: usize,
+        start_state: u64,
+        line: *mut u8,
+        line_len: usize,
+        summary: *mut u8,
+        summary_len: usize,
+    ) -> u64;
+    fn holzmotte_receive(
+        line: *const u8,
+        line_len: usize,
+        vectors: *mut u8,
+        vectors_len: usize,
+        summary: *mut u8,
+        summary_len: usize,
+    ) -> u64;
+}
+
+/// Sends a list: 0, or refusal number + 256 x place.
+pub fn send(vectors: &[u8], start_state: u64, line: &mut [u8], summary: &mut [u8]) -> u64 {
+    // Safety: a Rust slice is what the header asks of one, and no two of these overlap.
+    unsafe {
+        holzmotte_send(
+            vectors.as_ptr(),
+            vectors.len(),
+            start_state,
+            line.as_mut_ptr(),
+            line.len(),
+            summary.as_mut_ptr(),
+            summary.len(),
+        )
+    }
+}
+
+/// Receives a line: 0, or refusal number + 256 x place.
+pub fn receive(line: &[u8], vectors: &mut [u8], summary: &mut [u8]) -> u64 {
+    // Safety: as above.
+    unsafe {
+        holzmotte_receive(
+            line.as_ptr(),
+            line.len(),
+            vectors.as_mut_ptr(),
+            vectors.len(),
+            summary.as_mut_ptr(),
+            summary.len(),
+        )
+    }
+}
+
+/// Word `i` of a summary.
+pub fn word(summary: &[u8], i: usize) -> u64 {
+    u64::from_le_bytes(summary[8 * i..8 * i + 8].try_into().unwrap())
+}
+
+/// The line and the summary of a list that sending accepts.
+pub fn sent(vectors: &[u8], start_state: u64) -> (Vec<u8>, [u8; 24]) {
+    let mut line = vec![0; vectors.len() / 40 * 33];
+    let mut summary = [0; 24];
+    assert_eq!(send(vectors, start_state, &mut line, &mut summary), 0);
+    (line, summary)
+}
+
+/// The vectors and the summary of a line that receiving accepts.
+pub fn received(line: &[u8]) -> (Vec<u8>, [u8; 40]) {
+    let mut vectors = vec![0; 8 * line.len() / 66 * 10];
+    let mut summary = [0; 40];
+    assert_eq!(receive(line, &mut vectors, &mut summary), 0);
+    vectors.truncate(10 * word(&summary, 4) as usize);
+    (vectors, summary)
+}

@@ -1,0 +1,100 @@
+//! Lines for receiving, as bits: made of blocks, and damaged.
+use crate::lists;
+use crate::random::Random;
+use crate::reference::block::{encode, Block, CONTROL, DATA};
+use crate::reference::diagrams::State;
+use crate::reference::scrambler::Scrambler;
+use crate::reference::sending::{bytes, next_block};
+
+pub struct Line {
+    pub bits: Vec<bool>,
+}
+
+impl Line {
+    /// The scrambled blocks.
+    pub fn of_blocks(blocks: &[Block], start: u64) -> Line {
+        let mut scrambler = Scrambler { state: start };
+        let mut bits = Vec::with_capacity(66 * blocks.len());
+        for block in blocks {
+            bits.extend(block.header);
+            bits.extend(scrambler.scramble(&block.payload));
+        }
+        Line { bits }
+    }
+
+    /// The line of a list that a sender accepts.
+    pub fn of_list(vectors: &[u8], start: u64) -> Line {
+        Line::of_blocks(&blocks_of(vectors), start)
+    }
+
+    pub fn bytes(&self) -> Vec<u8> {
+        bytes(&self.bits)
+    }
+
+    pub fn flip(&mut self, bit: usize) {
+        self.bits[bit] = !self.bits[bit];
+    }
+
+    /// Flips `count` bits anywhere from bit `from` on.
+    pub fn flip_some(&mut self, count: usize, from: usize, random: &mut Random) {
+        for _ in 0..count {
+            self.flip(from + random.below(self.bits.len() - from));
+        }
+    }
+
+    /// Makes the header of a block invalid.
+    pub fn spoil_header(&mut self, block: usize) {
+        self.bits[66 * block] = self.bits[66 * block + 1];
+    }
+
+    /// Random bits in place of the line's own.
+    pub fn burst(&mut self, from: usize, count: usize, random: &mut Random) {
+        for bit in self.bits.iter_mut().skip(from).take(count) {
+            *bit = random.word() & 1 == 1;
+        }
+    }
+
+    /// Takes bits out of the line.
+    pub fn cut(&mut self, from: usize, count: usize) {
+        self.bits.drain(from..from + count);
+    }
+
+    /// Puts random bits into the line.
+    pub fn stretch(&mut self, from: usize, count: usize, random: &mut Random) {
+        let more: Vec<bool> = (0..count).map(|_| random.word() & 1 == 1).collect();
+        self.bits.splice(from..from, more);
+    }
+}
+
+/// The blocks that a sender sends, before scrambling.
+pub fn blocks_of(vectors: &[u8]) -> Vec<Block> {
+    let mut diagram = State::Init;
+    vectors
+        .chunks(10)
+        .map(|vector| {
+            let block;
+            (diagram, block) = next_block(diagram, vector.try_into().unwrap());
+            block
+        })
+        .collect()
+}
+
+/// A block of eight idles.
+pub fn idle() -> Block {
+    encode(&lists::idle()).unwrap()
+}
+
+/// A block with a header and a payload, bit 0 lowest.
+pub fn block(header: [bool; 2], payload: u64) -> Block {
+    Block { header, payload: std::array::from_fn(|i| (payload >> i) & 1 == 1) }
+}
+
+/// Random data blocks: any bit but a header's is a fair coin.
+pub fn data(random: &mut Random) -> Block {
+    block(DATA, random.word())
+}
+
+/// A control block with any payload.
+pub fn control(random: &mut Random) -> Block {
+    block(CONTROL, random.word())
+}

@@ -1,0 +1,122 @@
+//! Random vectors and lists of them.
+use crate::random::Random;
+use crate::reference::block::{kind_of_vector, Format, Kind, CODES, FORMATS, O_CODES, START, TERMINATE};
+use crate::reference::diagrams::{transmit, State};
+use crate::reference::vector::{vector, Character, Vector, ERROR};
+use Character::{Control, Data};
+
+const KINDS: [Kind; 5] = [Kind::D, Kind::C, Kind::S, Kind::T, Kind::E];
+
+/// Eight idles.
+pub fn idle() -> Vector {
+    vector(&[Control(0x07); 8])
+}
+
+/// A character that fits a letter of the block formats; control characters are mostly idles.
+fn character(letter: char, random: &mut Random) -> Character {
+    match letter {
+        'D' => Data(random.byte()),
+        'C' if random.once_in(4) => Control(random.pick(&CODES).0),
+        'C' => Control(0x07),
+        'O' => Control(random.pick(&O_CODES).0),
+        'S' => Control(START),
+        'T' => Control(TERMINATE),
+        _ => unreachable!("no such character"),
+    }
+}
+
+/// A vector that a format carries.
+pub fn of_format(format: &Format, random: &mut Random) -> Vector {
+    vector(&std::array::from_fn(|i| character(format.characters[i].0, random)))
+}
+
+/// Eight data octets.
+pub fn data(random: &mut Random) -> Vector {
+    vector(&std::array::from_fn(|_| Data(random.byte())))
+}
+
+/// Any vector whose control bytes are at most 15.
+pub fn any(random: &mut Random) -> Vector {
+    let mut bytes = random.word().to_le_bytes().to_vec();
+    bytes.extend(random.bytes(2));
+    let mut vector: Vector = bytes.try_into().unwrap();
+    vector[0] &= 15;
+    vector[5] &= 15;
+    vector
+}
+
+/// A vector that few bits keep from being a good one: one character of a good vector changed.
+pub fn spoilt(random: &mut Random) -> Vector {
+    let mut vector = of_format(&FORMATS[random.below(FORMATS.len())], random);
+    let (word, lane) = (5 * random.below(2), random.below(4));
+    match random.below(3) {
+        0 => vector[word] ^= 1 << lane,
+        1 => vector[word + 1 + lane] = random.pick(&[0xfe, 0xfb, 0xfd, 0x9c, 0x5c, 0x06, 0x07]),
+        _ => vector[word + 1 + lane] ^= 1 << random.below(8),
+    }
+    vector
+}
+
+fn bad(random: &mut Random) -> Vector {
+    match random.below(4) {
+        0 => ERROR,
+        1 => any(random),
+        _ => spoilt(random),
+    }
+}
+
+/// A vector of a kind.
+pub fn of_kind(kind: Kind, random: &mut Random) -> Vector {
+    loop {
+        let vector = match kind {
+            Kind::D => data(random),
+            Kind::E => bad(random),
+            Kind::C if random.once_in(2) => idle(),
+            _ => of_format(&FORMATS[random.below(FORMATS.len())], random),
+        };
+        if kind_of_vector(&vector) == kind {
+            return vector;
+        }
+    }
+}
+
+/// Kinds that the transmit diagram takes with no error, `strays` in a thousand of them any kind at all.
+pub struct Walk {
+    state: State,
+    strays: usize,
+}
+
+impl Walk {
+    pub fn new(strays: usize) -> Walk {
+        Walk { state: State::Init, strays }
+    }
+
+    pub fn next(&mut self, random: &mut Random) -> Kind {
+        let stray = random.below(1000) < self.strays;
+        loop {
+            let kind = match random.below(8) {
+                0..=2 => Kind::D,
+                3..=4 => Kind::C,
+                _ => random.pick(&KINDS),
+            };
+            let state = transmit(self.state, kind);
+            if stray || state != State::E {
+                self.state = state;
+                return kind;
+            }
+        }
+    }
+}
+
+/// A list of `n` vectors; a legal one where `strays` is 0.
+pub fn list(n: usize, strays: usize, random: &mut Random) -> Vec<u8> {
+    let mut walk = Walk::new(strays);
+    (0..n).flat_map(|_| of_kind(walk.next(random), random)).collect()
+}
+
+/// A list of `n` vectors whose first 64 are control vectors.
+pub fn list_after_lock(n: usize, strays: usize, random: &mut Random) -> Vec<u8> {
+    let mut vectors: Vec<u8> = (0..64.min(n)).flat_map(|_| of_kind(Kind::C, random)).collect();
+    vectors.extend(list(n - 64.min(n), strays, random));
+    vectors
+}

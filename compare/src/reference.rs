@@ -1,0 +1,20 @@
+//! The second program: document 01, bit by bit. It was written from the document alone, to be obvious and not to be fast, and
+//! shares nothing with the library. Comments in quotes are the document's sentences.
+pub mod block;
+pub mod diagrams;
+pub mod receiving;
+pub mod scrambler;
+pub mod sending;
+pub mod vector;
+
+/// A refusal: its number and its place.
+#[derive(Clone, Copy, PartialEq, Eq, Debug)]
+pub struct Refusal {
+    pub number: u64,
+    pub place: usize,
+}
+
+/// A refusal at place 0.
+pub fn refused<A>(number: u64) -> Result<A, Refusal> {
+    Err(Refusal { number, place: 0 })
+}

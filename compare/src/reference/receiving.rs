@@ -1,0 +1,107 @@
+//! Receiving a line.
+use super::block::{decode, kind, Block, Kind};
+use super::diagrams::{receive as step, ErrorRate, Lock, State};
+use super::scrambler::Scrambler;
+use super::vector::{Vector, ERROR, LOCAL_FAULT};
+use super::{refused, Refusal};
+
+pub const MOST_LINE_BYTES: usize = 825_000;
+pub const SUMMARY_BYTES: usize = 40;
+
+pub struct Received {
+    pub vectors: Vec<u8>,
+    pub tested: u64,
+    pub slips: u64,
+    pub locked: bool,
+    pub high: bool,
+}
+
+impl Received {
+    /// The summary as it crosses the C boundary; the last word is the number of vectors.
+    pub fn summary(&self) -> Vec<u8> {
+        let vectors = self.vectors.len() as u64 / 10;
+        [self.tested, self.slips, self.locked as u64, self.high as u64, vectors]
+            .iter()
+            .flat_map(|word| word.to_le_bytes())
+            .collect()
+    }
+}
+
+/// What receiving answers, given the lengths of the lent vectors and of the lent summary.
+pub fn receive(line: &[u8], room: usize, summary_room: usize) -> Result<Received, Refusal> {
+    if line.len() > MOST_LINE_BYTES {
+        return refused(1);
+    }
+    if room < 10 * (8 * line.len() / 66) || summary_room < SUMMARY_BYTES {
+        return refused(4);
+    }
+    Ok(receive_all(line))
+}
+
+/// A tested block, descrambled, and whether testing it left the receiver locked and not high.
+struct Tested {
+    block: Block,
+    up: bool,
+}
+
+impl Tested {
+    /// "The next block counts as E if testing it leaves the receiver not locked or high".
+    fn counts_as(&self) -> Kind {
+        if self.up {
+            kind(&self.block)
+        } else {
+            Kind::E
+        }
+    }
+}
+
+fn receive_all(line: &[u8]) -> Received {
+    let mut lock = Lock::default();
+    let mut rate = ErrorRate::default();
+    let mut scrambler = Scrambler { state: 0 };
+    let mut tested = Vec::new();
+    let mut slips = 0;
+    let mut at = 0;
+    // "Bits that do not fill a block are not tested."
+    while at + 66 <= 8 * line.len() {
+        let mut block = block_at(line, at);
+        at += 66;
+        let locked_before = lock.locked;
+        if lock.test(block.header) {
+            slips += 1;
+            at += 1;
+        }
+        rate.count(locked_before, lock.locked, block.header[0] == block.header[1]);
+        block.payload = scrambler.descramble(&block.payload);
+        tested.push(Tested { block, up: lock.locked && !rate.high });
+    }
+    Received { vectors: answers(&tested), tested: tested.len() as u64, slips, locked: lock.locked, high: rate.high }
+}
+
+fn block_at(line: &[u8], at: usize) -> Block {
+    let bit = |n: usize| (line[n / 8] >> (n % 8)) & 1 == 1;
+    Block { header: std::array::from_fn(|i| bit(at + i)), payload: std::array::from_fn(|i| bit(at + 2 + i)) }
+}
+
+/// One vector for each tested block.
+fn answers(tested: &[Tested]) -> Vec<u8> {
+    let mut state = State::Init;
+    let mut vectors = Vec::new();
+    for (n, now) in tested.iter().enumerate() {
+        // "and at the end of the input"
+        let next = tested.get(n + 1).map_or(Kind::E, Tested::counts_as);
+        // "Not locked or high: state INIT"
+        state = if now.up { step(state, kind(&now.block), next) } else { State::Init };
+        vectors.extend(answer(state, &now.block));
+    }
+    vectors
+}
+
+/// "State E answers the error vector, the others the decoded block", and INIT the Local Fault vector.
+fn answer(state: State, block: &Block) -> Vector {
+    match state {
+        State::Init => LOCAL_FAULT,
+        State::E => ERROR,
+        _ => decode(block),
+    }
+}

@@ -1,0 +1,243 @@
+/* The library from C, by its header alone. Each lent buffer ends at a page that cannot be touched, so that one byte too far is a
+ * crash. What the bytes should be is in the comparison with the second program; here it is what may be touched, what is refused and
+ * what stays as it was. */
+#define _DEFAULT_SOURCE
+#include "holzmotte.h"
+
+#include <stdio.h>
+#include <stdlib.h>
+#include <string.h>
+#include <sys/mman.h>
+#include <unistd.h>
+
+static int passed, failed; /* groups of checks */
+static int checks, wrong;   /* in the group at hand */
+
+#define CHECK(e) (checks++, (e) ? (void)0 : (void)(wrong++, printf("FAILED, line %d: %s\n", __LINE__, #e)))
+
+/* Ends a group of checks. */
+static void group(const char *says)
+{
+    printf("%s, %d checks: %s\n", wrong == 0 ? "passed" : "FAILED", checks, says);
+    *(wrong == 0 ? &passed : &failed) += 1;
+    checks = wrong = 0;
+}
+
+/* n bytes that end at a protected page; they are lent until the program ends. */
+static uint8_t *guarded(size_t n)
+{
+    size_t page = (size_t)sysconf(_SC_PAGESIZE), pages = (n + page - 1) / page;
+    uint8_t *p = mmap(NULL, (pages + 1) * page, PROT_READ | PROT_WRITE, MAP_PRIVATE | MAP_ANONYMOUS, -1, 0);
+    if (p == MAP_FAILED || mprotect(p + pages * page, page, PROT_NONE) != 0) {
+        perror("guarded");
+        exit(2);
+    }
+    return p + pages * page - n;
+}
+
+/* Are these n bytes all b? */
+static int all(const uint8_t *p, size_t n, uint8_t b)
+{
+    for (size_t i = 0; i < n; i++)
+        if (p[i] != b)
+            return 0;
+    return 1;
+}
+
+#define ROOM 0xa5
+#define SUMMARY 0x5a
+
+/* The buffers of one call: `in` is read, `out` and `summary` are lent and end at a protected page. */
+static uint8_t *in, *out, *summary;
+static size_t in_len, out_len, summary_len;
+
+static void lend(size_t in_bytes, size_t out_bytes, size_t summary_bytes)
+{
+    in = guarded(in_len = in_bytes);
+    out = guarded(out_len = out_bytes);
+    summary = guarded(summary_len = summary_bytes);
+    memset(out, ROOM, out_len);
+    memset(summary, SUMMARY, summary_len);
+}
+
+/* Eight idles, again and again; a length that is no multiple of ten ends inside one. */
+static void idles(void)
+{
+    for (size_t i = 0; i < in_len; i++)
+        in[i] = i % 5 == 0 ? 0x0f : 0x07;
+}
+
+static uint64_t sends(uint64_t start)
+{
+    return holzmotte_send(in, in_len, start, out, out_len, summary, summary_len);
+}
+
+static uint64_t receives(void)
+{
+    return holzmotte_receive(in, in_len, out, out_len, summary, summary_len);
+}
+
+/* The room as it was, and zeros in a summary that has room for `words` bytes of them, else a summary as it was. */
+static int refused(size_t words)
+{
+    size_t zeros = summary_len < words ? 0 : words;
+    return all(out, out_len, ROOM) && all(summary, zeros, 0) && all(summary + zeros, summary_len - zeros, SUMMARY);
+}
+
+static void whole_calls(void)
+{
+    for (size_t vectors = 4; vectors <= 400; vectors += 4) {
+        lend(10 * vectors, HOLZMOTTE_LINE_ROOM(10 * vectors), HOLZMOTTE_SEND_SUMMARY_BYTES);
+        idles();
+        CHECK(sends(0) == HOLZMOTTE_DONE);
+        CHECK(holzmotte_word(summary, HOLZMOTTE_SEND_STATE) < HOLZMOTTE_START_STATES);
+        CHECK(holzmotte_word(summary, HOLZMOTTE_SEND_DIAGRAM) == HOLZMOTTE_C);
+        CHECK(holzmotte_word(summary, HOLZMOTTE_SEND_REPLACED) == 0);
+        const uint8_t *line = out;
+        size_t line_len = out_len;
+        lend(line_len, HOLZMOTTE_VECTOR_ROOM(line_len), HOLZMOTTE_RECEIVE_SUMMARY_BYTES);
+        memcpy(in, line, line_len);
+        CHECK(receives() == HOLZMOTTE_DONE);
+        CHECK(out_len == 10 * vectors);
+        CHECK(holzmotte_word(summary, HOLZMOTTE_RECEIVE_TESTED) == vectors);
+        CHECK(holzmotte_word(summary, HOLZMOTTE_RECEIVE_VECTORS) == vectors);
+        CHECK(holzmotte_word(summary, HOLZMOTTE_RECEIVE_SLIPS) == 0);
+        CHECK(holzmotte_word(summary, HOLZMOTTE_RECEIVE_LOCKED) == (vectors >= 64));
+        CHECK(holzmotte_word(summary, HOLZMOTTE_RECEIVE_HIGH) == 0);
+        CHECK(out[out_len - 1] == (vectors >= 64 ? 0x07 : 0x01));
+    }
+    group("lists of 4 to 400 vectors sent and received, every buffer exact");
+}
+
+static void lines_of_every_length(void)
+{
+    for (size_t n = 0; n <= 700; n++) {
+        lend(n, HOLZMOTTE_VECTOR_ROOM(n), HOLZMOTTE_RECEIVE_SUMMARY_BYTES);
+        for (size_t i = 0; i < n; i++)
+            in[i] = (uint8_t)rand();
+        CHECK(receives() == HOLZMOTTE_DONE);
+        size_t written = HOLZMOTTE_VECTOR_BYTES * (size_t)holzmotte_word(summary, HOLZMOTTE_RECEIVE_VECTORS);
+        CHECK(written <= out_len && all(out + written, out_len - written, ROOM));
+    }
+    group("noise of 0 to 700 bytes received, every buffer exact");
+}
+
+static void the_longest(void)
+{
+    lend(HOLZMOTTE_MAX_VECTOR_BYTES, HOLZMOTTE_MAX_LINE_BYTES, HOLZMOTTE_SEND_SUMMARY_BYTES);
+    idles();
+    CHECK(sends(HOLZMOTTE_START_STATES - 1) == HOLZMOTTE_DONE);
+    const uint8_t *line = out;
+    lend(HOLZMOTTE_MAX_LINE_BYTES, HOLZMOTTE_MAX_VECTOR_BYTES, HOLZMOTTE_RECEIVE_SUMMARY_BYTES);
+    memcpy(in, line, in_len);
+    CHECK(receives() == HOLZMOTTE_DONE);
+    CHECK(holzmotte_word(summary, HOLZMOTTE_RECEIVE_VECTORS) == 100000);
+    group("100,000 vectors and their line");
+}
+
+static void empty_slices(void)
+{
+    lend(0, 0, HOLZMOTTE_SEND_SUMMARY_BYTES);
+    CHECK(sends(7) == HOLZMOTTE_DONE);
+    CHECK(holzmotte_word(summary, HOLZMOTTE_SEND_STATE) == 7);
+    CHECK(holzmotte_word(summary, HOLZMOTTE_SEND_DIAGRAM) == HOLZMOTTE_INIT);
+    CHECK(holzmotte_word(summary, HOLZMOTTE_SEND_REPLACED) == 0);
+    lend(0, 0, HOLZMOTTE_RECEIVE_SUMMARY_BYTES);
+    CHECK(receives() == HOLZMOTTE_DONE);
+    CHECK(all(summary, summary_len, 0));
+    lend(0, 0, 0);
+    CHECK(sends(0) == HOLZMOTTE_NO_ROOM);
+    CHECK(receives() == HOLZMOTTE_NO_ROOM);
+    group("empty slices");
+}
+
+static void longer_slices(void)
+{
+    lend(40, 33 + 100, HOLZMOTTE_SEND_SUMMARY_BYTES + 9);
+    idles();
+    CHECK(sends(0) == HOLZMOTTE_DONE);
+    CHECK(all(out + 33, 100, ROOM));
+    CHECK(all(summary + 24, 9, SUMMARY) && !all(summary, 24, SUMMARY));
+    lend(9, 10 + 100, HOLZMOTTE_RECEIVE_SUMMARY_BYTES + 9);
+    memset(in, 0, in_len);
+    CHECK(receives() == HOLZMOTTE_DONE);
+    CHECK(memcmp(out, "\x01\x9c\x00\x00\x01\x01\x9c\x00\x00\x01", 10) == 0);
+    CHECK(all(out + 10, 100, ROOM));
+    CHECK(holzmotte_word(summary, HOLZMOTTE_RECEIVE_TESTED) == 1 && holzmotte_word(summary, HOLZMOTTE_RECEIVE_SLIPS) == 1);
+    CHECK(all(summary + 40, 9, SUMMARY));
+    group("longer slices keep their rest");
+}
+
+/* Sends idles, with one control byte spoilt where `spoilt` is an offset in them, and looks for a refusal. */
+static void send_refused(size_t bytes, size_t spoilt, uint64_t start, size_t room, size_t words, int number, uint64_t place)
+{
+    lend(bytes, room, words);
+    idles();
+    if (spoilt < bytes)
+        in[spoilt] = 16;
+    uint64_t result = sends(start);
+    CHECK(HOLZMOTTE_NUMBER(result) == number && HOLZMOTTE_PLACE(result) == place);
+    CHECK(refused(HOLZMOTTE_SEND_SUMMARY_BYTES));
+}
+
+#define NOT_SPOILT SIZE_MAX
+#define TOO_HIGH HOLZMOTTE_START_STATES
+#define TOO_MANY (HOLZMOTTE_MAX_VECTOR_BYTES + 1)
+
+static void sending_refusals(void)
+{
+    /* with summaries that are exact, longer, one byte short and empty */
+    for (int i = 0; i < 4; i++) {
+        size_t words = (const size_t[]){24, 30, 23, 0}[i];
+        send_refused(TOO_MANY, 0, TOO_HIGH, 0, words, HOLZMOTTE_TOO_LONG, 0);
+        send_refused(HOLZMOTTE_MAX_VECTOR_BYTES + 40, NOT_SPOILT, 0, 825033, words, HOLZMOTTE_TOO_LONG, 0);
+        send_refused(79, 0, TOO_HIGH, 0, words, HOLZMOTTE_RAGGED, 0);
+        send_refused(10, NOT_SPOILT, 0, 33, words, HOLZMOTTE_RAGGED, 0);
+        send_refused(80, 0, TOO_HIGH, 0, words, HOLZMOTTE_START_STATE, 0);
+        send_refused(80, NOT_SPOILT, UINT64_MAX, 66, words, HOLZMOTTE_START_STATE, 0);
+        send_refused(80, 0, 0, 65, words, HOLZMOTTE_NO_ROOM, 0);
+        send_refused(80, NOT_SPOILT, 0, 0, words, HOLZMOTTE_NO_ROOM, 0);
+    }
+    for (size_t words = 0; words < 24; words++)
+        send_refused(80, 0, 0, 66, words, HOLZMOTTE_NO_ROOM, 0);
+    for (size_t place = 0; place < 80; place += 5)
+        send_refused(80, place, 0, 66, 24, HOLZMOTTE_CONTROL_BYTE, place);
+    send_refused(HOLZMOTTE_MAX_VECTOR_BYTES, 999995, 0, 825000, 25, HOLZMOTTE_CONTROL_BYTE, 999995);
+    group("sending's refusals, in their order, with short summaries");
+}
+
+static void receive_refused(size_t bytes, size_t room, size_t words, int number)
+{
+    lend(bytes, room, words);
+    uint64_t result = receives();
+    CHECK(HOLZMOTTE_NUMBER(result) == number && HOLZMOTTE_PLACE(result) == 0);
+    CHECK(refused(HOLZMOTTE_RECEIVE_SUMMARY_BYTES));
+}
+
+static void receiving_refusals(void)
+{
+    for (int i = 0; i < 4; i++) {
+        size_t words = (const size_t[]){40, 48, 39, 0}[i];
+        receive_refused(HOLZMOTTE_MAX_LINE_BYTES + 1, 0, words, HOLZMOTTE_TOO_LONG);
+        receive_refused(HOLZMOTTE_MAX_LINE_BYTES + 1, 1000010, words, HOLZMOTTE_TOO_LONG);
+        receive_refused(9, 9, words, HOLZMOTTE_NO_ROOM);
+        receive_refused(33, 39, words, HOLZMOTTE_NO_ROOM);
+        receive_refused(HOLZMOTTE_MAX_LINE_BYTES, 999999, words, HOLZMOTTE_NO_ROOM);
+    }
+    for (size_t words = 0; words < 40; words++)
+        receive_refused(33, 40, words, HOLZMOTTE_NO_ROOM);
+    group("receiving's refusals, in their order, with short summaries");
+}
+
+int main(void)
+{
+    whole_calls();
+    lines_of_every_length();
+    the_longest();
+    empty_slices();
+    longer_slices();
+    sending_refusals();
+    receiving_refusals();
+    printf("%d passed, %d failed\n", passed, failed);
+    return failed != 0;
+}

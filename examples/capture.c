@@ -1,0 +1,65 @@
+/* capture: writes a small capture file to standard output, for linkwatch to read. The library sends a list of vectors: idles, a
+ * far end that reports Remote Fault, frames. Then the line is damaged: a header
+ * bit of a frame's block flipped, and a stretch of noise. */
+#include "holzmotte.h"
+
+#include <stdio.h>
+#include <string.h>
+
+static uint8_t vectors[HOLZMOTTE_MAX_VECTOR_BYTES], line[HOLZMOTTE_MAX_LINE_BYTES], summary[HOLZMOTTE_SEND_SUMMARY_BYTES];
+static size_t vectors_len;
+
+static void add(const char *vector, size_t count)
+{
+    for (size_t i = 0; i < count; i++, vectors_len += 10)
+        memcpy(vectors + vectors_len, vector, 10);
+}
+
+static void idles(size_t count) { add("\x0f\x07\x07\x07\x07\x0f\x07\x07\x07\x07", count); }
+
+/* A frame of 8 * n octets after its preamble. */
+static void frame(size_t n)
+{
+    add("\x01\xfb\x55\x55\x55\x00\x55\x55\x55\xd5", 1);
+    add("\x00Holz\x00mott", n);
+    add("\x0f\xfd\x07\x07\x07\x0f\x07\x07\x07\x07", 1);
+}
+
+/* The line as records of at most 4,092 bytes: body length, kind 2, body. */
+static void write_records(size_t len)
+{
+    for (size_t at = 0; at < len; at += 4092) {
+        size_t body = len - at < 4092 ? len - at : 4092;
+        uint8_t head[4] = {(uint8_t)(body % 256), (uint8_t)(body / 256), 2, 0};
+        fwrite(head, 1, 4, stdout);
+        fwrite(line + at, 1, body, stdout);
+    }
+}
+
+int main(void)
+{
+    idles(80);
+    add("\x01\x9c\x00\x00\x02\x01\x9c\x00\x00\x02", 24);
+    idles(12);
+    frame(8);
+    idles(2);
+    frame(188);
+    frame(8);
+    idles(800);
+    frame(8);
+    idles(70);
+    idles(4 - vectors_len / 10 % 4);
+
+    uint64_t result = holzmotte_send(vectors, vectors_len, 0x2a5a5a5a5a5a5a5, line, sizeof line, summary, sizeof summary);
+    if (result != HOLZMOTTE_DONE) {
+        fprintf(stderr, "refused %d\n", HOLZMOTTE_NUMBER(result));
+        return 1;
+    }
+    size_t len = HOLZMOTTE_LINE_ROOM(vectors_len);
+    line[33 * 50] ^= 1; /* the header of block 200 */
+    uint32_t noise = 1;
+    for (size_t i = 33 * 100; i < 33 * 130; i++)
+        line[i] = (uint8_t)((noise = noise * 1664525 + 1013904223) >> 24);
+    write_records(len);
+    return 0;
+}

@@ -1,0 +1,168 @@
+/* linkwatch CAPTURE: tells a person what a 10GBASE-R link was saying, from a capture file of line records.
+ *
+ * It gathers the records' line bytes, has the library receive them, and prints one line for each run of vectors that say the same.
+ * All that it tells stands in the vectors and summaries that the library answered. A block takes 6.4 ns on the line. */
+#include "holzmotte.h"
+
+#include <stdio.h>
+#include <string.h>
+
+#define MOST_BODY 4092
+
+static uint8_t line[HOLZMOTTE_MAX_LINE_BYTES + MOST_BODY], vectors[HOLZMOTTE_MAX_VECTOR_BYTES];
+static uint8_t summary[HOLZMOTTE_RECEIVE_SUMMARY_BYTES];
+static size_t line_len, place; /* place: of the record that is read */
+
+/* Gathers the line bytes of a capture file: 0, or the number of the first refusal. A record is body length (2 bytes), kind (2 bytes;
+ * 1 vectors, 2 line bytes) and body. */
+static int gather(FILE *file)
+{
+    uint8_t head[4];
+    size_t got;
+    for (place = 0; (got = fread(head, 1, 4, file)) > 0; place += 4 + (head[0] + 256u * head[1])) {
+        size_t body = head[0] + 256u * head[1], kind = head[2] + 256u * head[3];
+        if (got < 4)
+            return 6;
+        if (body > MOST_BODY)
+            return 7;
+        if (kind != 1 && kind != 2)
+            return 8;
+        if (fread(line + line_len, 1, body, file) < body)
+            return 6;
+        if (kind == 1)
+            return body % 40 == 0 ? 8 : 2;
+        if ((line_len += body) > HOLZMOTTE_MAX_LINE_BYTES)
+            return 1;
+    }
+    return 0;
+}
+
+static const char *reason(int number)
+{
+    switch (number) {
+    case 1: return "more than 825,000 line bytes";
+    case 2: return "a record of vectors that do not come in fours";
+    case 6: return "a record is cut short";
+    case 7: return "a record longer than 4,092 bytes";
+    case 8: return "a record that does not hold line bytes";
+    default: return "the library does not take it";
+    }
+}
+
+/* Has the library receive the first n bytes of the line: 0, or the number of its refusal. */
+static int receive(size_t n)
+{
+    return HOLZMOTTE_NUMBER(holzmotte_receive(line, n, vectors, sizeof vectors, summary, sizeof summary));
+}
+
+static unsigned long word(enum holzmotte_receive_word i) { return (unsigned long)holzmotte_word(summary, i); }
+
+static int locked_after(size_t n)
+{
+    return receive(n) == HOLZMOTTE_DONE && word(HOLZMOTTE_RECEIVE_LOCKED) == 1;
+}
+
+/* The number of blocks tested when lock first came, or 0. The library is asked about longer and longer beginnings of the line: lock
+ * lasts for at least 16 blocks, 132 bytes, so steps of 128 miss none. */
+static unsigned long first_lock(void)
+{
+    size_t n = 0;
+    while (n < line_len && !locked_after(n))
+        n = n + 128 < line_len ? n + 128 : line_len;
+    if (!locked_after(n))
+        return 0;
+    while (locked_after(n - 1))
+        n--;
+    receive(n);
+    return word(HOLZMOTTE_RECEIVE_TESTED);
+}
+
+static const uint8_t *vector(unsigned long n) { return vectors + HOLZMOTTE_VECTOR_BYTES * n; }
+static int is_control(const uint8_t *v, int i) { return v[i / 4 * 5] >> i % 4 & 1; }
+
+/* Has vector v this control character? */
+static int has(const uint8_t *v, int character)
+{
+    for (int i = 0; i < 8; i++)
+        if (is_control(v, i) && v[i / 4 * 5 + 1 + i % 4] == character)
+            return 1;
+    return 0;
+}
+
+static int starts(const uint8_t *v) { return has(v, 0xfb); }
+static int ends(const uint8_t *v) { return has(v, 0xfd); }
+static int either(const uint8_t *v, const char *word) { return !memcmp(v, word, 5) || !memcmp(v + 5, word, 5); }
+static int both(const uint8_t *v, const char *word) { return !memcmp(v, word, 5) && !memcmp(v + 5, word, 5); }
+
+enum says { ERRORS, FRAME, REMOTE_FAULT, LOCAL_FAULT, IDLE, OTHER };
+static const char *const SAYS[] = {"errors", "frame", "Remote Fault", "Local Fault", "idle", "other control characters"};
+
+static enum says says(const uint8_t *v)
+{
+    if (both(v, "\x0f\xfe\xfe\xfe\xfe"))
+        return ERRORS;
+    if (starts(v) || ends(v) || (v[0] == 0 && v[5] == 0))
+        return FRAME;
+    if (either(v, "\x01\x9c\x00\x00\x02"))
+        return REMOTE_FAULT;
+    if (either(v, "\x01\x9c\x00\x00\x01"))
+        return LOCAL_FAULT;
+    return both(v, "\x0f\x07\x07\x07\x07") ? IDLE : OTHER;
+}
+
+/* Does vector n + 1 go on with the run of vector n? A frame begins at Start and ends with Terminate. */
+static int goes_on(unsigned long n)
+{
+    const uint8_t *v = vector(n), *next = vector(n + 1);
+    return says(v) == says(next) && !(says(v) == FRAME && (ends(v) || starts(next)));
+}
+
+static void print_run(unsigned long from, unsigned long to, unsigned long lock)
+{
+    enum says said = says(vector(from));
+    printf("%8lu %8lu %10.4f us  %s", from, to - from, (double)(to - from) * 0.0064, SAYS[said]);
+    if (said == FRAME && !starts(vector(from)))
+        printf(", no Start");
+    if (said == FRAME && !ends(vector(to - 1)))
+        printf(", no Terminate");
+    if (said == LOCAL_FAULT)
+        printf("%s", lock == 0 || to < lock ? ": not locked yet" : ": sent, or lock lost, or the error rate high");
+    puts("");
+}
+
+static void print_link(unsigned long lock)
+{
+    unsigned long count = word(HOLZMOTTE_RECEIVE_VECTORS), from = 0;
+    printf("%lu blocks tested, %lu slips; ", word(HOLZMOTTE_RECEIVE_TESTED), word(HOLZMOTTE_RECEIVE_SLIPS));
+    if (lock == 0)
+        printf("never locked");
+    else
+        printf("first locked with block %lu", lock - 1);
+    printf("; at the end %slocked%s\n", word(HOLZMOTTE_RECEIVE_LOCKED) ? "" : "not ",
+           word(HOLZMOTTE_RECEIVE_HIGH) ? ", with a high error rate" : "");
+    puts("   block   blocks      duration  what the link says");
+    for (unsigned long n = 0; n < count; n++)
+        if (n + 1 == count || n + 2 == lock || !goes_on(n)) {
+            print_run(from, n + 1, lock);
+            from = n + 1;
+        }
+}
+
+int main(int argc, char **argv)
+{
+    FILE *file = argc == 2 ? fopen(argv[1], "rb") : NULL;
+    int number = file ? gather(file) : 0;
+    if (!file || ferror(file)) {
+        fputs("linkwatch CAPTURE: no such file, or it cannot be read\n", stderr);
+        return 2;
+    }
+    unsigned long lock = number == 0 ? first_lock() : 0;
+    if (number == 0)
+        number = receive(line_len);
+    if (number != 0) {
+        printf("refused, number %d, the record at byte %zu: %s\n", number, place, reason(number));
+        return 1;
+    }
+    print_link(lock);
+    return 0;
+}
