@@ -1,15 +1,17 @@
 -- Each block that is sent for an accepted list is the block of state E, or a block that is not of kind E.
 use mathlib.Core.Path.{_≡_, refl, sym, ap, _∙_, subst}
+use mathlib.Core.Bool.{true}
 use mathlib.Core.List.{List, [], _∷_}
 use mathlib.Core.Logic.{_⊎_, inl, inr}
 use Prim.Native.Nat.{ℕ, zero, suc, _<_}
 use native.Mathlib.Omega.{arith}
 use lib.ListN.{length, getD}
+use Rattle.diagrams.proofs.Laws.{error-any}
 use Rattle.line.specs.declared.Block.{Block}
 use Rattle.block.specs.Block.{Carrier, block, none, carrier, carrierKind, vectorKind}
 use Rattle.block.specs.declared.Kind.the-variants.{E}
 use Rattle.block.proofs.Sending.{carrier-header, carrier-fits, round-trip}
-use Rattle.diagrams.specs.Diagram.{afterIdle, afterData, afterError, diagramOf, transmitOf}
+use Rattle.diagrams.specs.Diagram.{transmitOf}
 use Rattle.diagrams.specs.declared.State.{State}
 use Rattle.diagrams.specs.declared.State.the-variants.{Init, Control, Data, Terminate, Error}
 use Rattle.sending.specs.Send.{errorBlock, ownBlock, blockIn, sentBlocks}
@@ -23,15 +25,6 @@ use Rattle.damage.proofs.OneBlock.{Sent}
 -- the block of state E
 error-sent : Sent errorBlock
 error-sent = record { header-is = inr refl; payload-lt = omega arith; error-or-valid = inl refl }
-
--- kind E leads to state E
-error-leads : (s : State) → transmitOf s E ≡ Error
-unfolding diagramOf afterIdle afterData afterError
-error-leads Init = refl
-error-leads Control = refl
-error-leads Data = refl
-error-leads Terminate = refl
-error-leads Error = refl
 
 -- the own block of a vector that is not of kind E
 own-sent : (v : List ℕ) → Vector v → (vectorKind v ≡ E → ⊥) → Sent (ownBlock (carrier v))
@@ -64,7 +57,7 @@ block-sent s v w = go (error-or-not (vectorKind v))
     in-state Error n = error-sent
 
     go : (vectorKind v ≡ E) ⊎ (vectorKind v ≡ E → ⊥) → Sent (blockIn (transmitOf s (vectorKind v)) v)
-    go (inl e) = subst (λ (t : State). Sent (blockIn t v)) (sym (ap (transmitOf s) e ∙ error-leads s)) error-sent
+    go (inl e) = subst (λ (t : State). Sent (blockIn t v)) (sym (ap (transmitOf s) e ∙ error-any s true)) error-sent
     go (inr n) = in-state (transmitOf s (vectorKind v)) n
 
 -- ---- all of them

@@ -8,6 +8,7 @@ use native.Mathlib.Omega.{arith}
 use lib.Dec.{eqb}
 use lib.ListN.{length, getD}
 use borrow.Author.Tests.{ne-eqb}
+use Rattle.diagrams.proofs.Laws.{error-any}
 use Rattle.bits.specs.Bits.{bit}
 use Rattle.line.specs.declared.Block.{Block}
 use Rattle.block.specs.Block.{Carrier, block, none, carrier, vectorKind, kindOf, decoded}
@@ -104,15 +105,6 @@ own-block Data v h = refl
 own-block Terminate v h = refl
 own-block Error v h = absurd (true≢false h)
 
--- kind E leads to E
-pub error-leads : (s : State) → transmitOf s E ≡ Error
-unfolding diagramOf afterIdle afterData afterError
-error-leads Init = refl
-error-leads Control = refl
-error-leads Data = refl
-error-leads Terminate = refl
-error-leads Error = refl
-
 -- a block with the kind of a vector, which is decoded to it
 abbrev Gives : Block → List ℕ → Type 0
 Gives b v = (kindOf (b .header) (b .payload) ≡ vectorKind v) × (decoded (b .header) (b .payload) ≡ v)
@@ -124,7 +116,7 @@ gives s v w h = subst (λ (b : Block). Gives b v) (sym (own-block (transmitOf s 
   where
     go : (c : Carrier) → carrier v ≡ c → Gives (ownBlock c) v
     go (block k y x) e = let r = round-trip v k y x (w .ten) (octets v k y x e (w .ten) (w .low) (w .high)) (w .low) (w .high) e in rw e r
-    go none e = absurd (true≢false (sym (ap isError (error-leads s)) ∙ rw e at h))
+    go none e = absurd (true≢false (sym (ap isError (error-any s true)) ∙ rw e at h))
 
 -- of a legal list every block is the vector's own, and carries it
 pub carried : (s : State) (vs : List (List ℕ)) (ts : List Tested) → Vectors vs → legalFrom s vs ≡ true → Reads (sentBlocks s vs) ts → Carries vs ts
