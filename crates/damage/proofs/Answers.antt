@@ -16,7 +16,7 @@ use Rattle.diagrams.specs.declared.State.{State}
 use Rattle.diagrams.specs.declared.State.the-variants.{Init, Control, Data, Terminate, Error}
 use Rattle.scrambler.specs.Scrambler.{descrambledAll}
 use Rattle.receiving.specs.Machine.{Tested, linkOf, testedOf}
-use Rattle.receiving.specs.Receive.{ends, stateOf, answerIn, answers}
+use Rattle.receiving.specs.Receive.{ends, stateOf, answerIn, judge, answers}
 use Rattle.receiving.specs.declared.Link.{Link}
 use Rattle.demands.proofs.Runs.{testedAll}
 use Rattle.damage.proofs.Blocks.{payloads}
@@ -94,7 +94,7 @@ module _ (v : List ℕ) where
 -- the answer for block k of those that were tested
 pub answer-at : (s : State) (ts : List Tested) (z : Tested) (k : ℕ) → k < length ts → getD ts k z .on ≡ true
     → ErrorOr (getD ts k z .kind) (getD ts k z .vector) (getD (answers s ts) k [])
-unfolding answers stateOf
+unfolding answers judge stateOf
 answer-at s [] z k l o = absurd (omega arith)
 answer-at s (t ∷ ts) z zero l o = rw o (step (t .vector) s (t .kind) (ends ts))
 answer-at s (t ∷ ts) z (suc k) l o = answer-at (stateOf s t (ends ts)) ts z k (omega arith) o

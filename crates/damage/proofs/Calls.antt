@@ -1,6 +1,5 @@
 -- Demand 3 of the functions: what follows from the promises of `send` and `receive`. Assumes nothing.
 use mathlib.Core.Path.{_≡_, refl, sym, ap, ap₂, _∙_, subst}
-use mathlib.Core.Bool.{true, false}
 use mathlib.Core.List.{List, [], _∷_, _++_, append-assoc, flatten}
 use Prim.Native.Nat.{ℕ, _*_, _/_, _≤_, _<_}
 use native.Mathlib.Omega.{arith}
@@ -25,11 +24,11 @@ use Rattle.sending.specs.Answer as Sending
 use Rattle.sending.specs.declared.Sending.{Sending}
 use Rattle.sending.specs.declared.Sent.the-variants as Sent
 use Rattle.receiving.specs.Machine.{linkFresh, linkOf, testedOf}
-use Rattle.receiving.specs.Receive.{answerIn, answers, vectorsOf, receivedVectors}
+use Rattle.receiving.specs.Receive.{answerIn, judge, answers, vectorsOf, receivedVectors}
 use Rattle.receiving.specs.Answer as Receiving
 use Rattle.receiving.specs.declared.Link.{Link}
 use Rattle.receiving.specs.declared.Received.{Received}
-use Rattle.demands.specs.Words.{accepts}
+use Rattle.demands.specs.Words.{accepts, Unbroken}
 use Rattle.demands.specs.Promises.{Sends, Receives}
 use Rattle.demands.specs.Demand1.{Outcome, succeeds, refuses}
 use Rattle.demands.proofs.Demand1.{none-is, demand-1-of-send}
@@ -80,7 +79,7 @@ ten-in Error v e = refl
 
 -- all vectors that are answered
 answers-ten : (s : State) (l : Link) (bs : List Block) → Tens (answers s (testedAll l bs))
-unfolding answers testedAll testedOf
+unfolding answers judge testedAll testedOf
 answers-ten s l [] = tt
 answers-ten s l (b ∷ bs) = (ten-in _ _ (decoded-length (b .header) _), answers-ten _ (linkOf l (b .header) (b .payload)) bs)
 
@@ -101,9 +100,9 @@ received-too line out short enough = rw (le-ltb 825000 line short, le-ltb out (1
 module _ (line out : List ℕ) (r : Received) (out′ : List ℕ) (receives : Receives line out r out′)
     (ok : first (Receiving.receiveChecks (length line) (length out)) ≡ accepted) where
   -- what is then answered
-  answer-is : Receiving.answerOf r ≡ Receiving.receivedFor line
+  answer-is : Receiving.answerOf r ≡ Receiving.received (Receiving.summaryOf line)
   unfolding Receiving.receiveAnswer
-  answer-is = receives .0 ∙ ap (λ (v : Verdict). byVerdict v (Receiving.receivedFor line) Receiving.refused) ok
+  answer-is = receives .0 ∙ ap (λ (v : Verdict). byVerdict v (Receiving.received (Receiving.summaryOf line)) Receiving.refused) ok
 
   -- its vectors stand at the start of the room
   vectors-stand : Tens (vectorsOf line) → vectorsIn (length (vectorsOf line)) out′ ≡ vectorsOf line
@@ -153,10 +152,17 @@ module _ (most : ℕ) (far : T (all (apart most))) (small : most < 16) (bytes : 
       received-too (length line) (length out) (omega (arith, size, not-long bytes start (length room) ok))
       (subst (λ (n : ℕ). 10 * (8 * n / 66) ≤ length out) (sym size) (omega (arith, enough)))
 
+  -- what `receive` answers
+  answer-called : Receiving.answerOf r ≡ Receiving.received (Receiving.summaryOf (damaged (lineIn room′ bytes) f))
+  answer-called =
+      answer-is line out r out′ receives-line too ∙ ap (λ (l : List ℕ). Receiving.received (Receiving.summaryOf (damaged l f))) (sym stands)
+
   module _ (long : 63 < length (blocksFor bytes)) where
-    -- what `receive` answers, and the vectors that it leaves
-    answer-called : Receiving.answerOf r ≡ Receiving.received (length (blocksFor bytes)) 0 true false (length (blocksFor bytes))
-    answer-called = answer-is line out r out′ receives-line too ∙ tested most far small bytes start (length room) ok f flips-line long
+    -- its values, and the vectors that it leaves
+    values-called : Unbroken (length (blocksFor bytes)) (Receiving.summaryOf (damaged (lineIn room′ bytes) f))
+    values-called =
+        subst (λ (l : List ℕ). Unbroken (length (blocksFor bytes)) (Receiving.summaryOf (damaged l f))) (sym stands)
+        (tested most far small bytes start (length room) ok f flips-line long)
 
     vectors-called : vectorsIn (length (blocksFor bytes)) out′ ≡ vectorsOf line
     vectors-called =
@@ -165,10 +171,12 @@ module _ (most : ℕ) (far : T (all (apart most))) (small : most < 16) (bytes : 
         (subst Tens (sym (vectors-tested most far small bytes start (length room) ok f flips-line long)) (answers-ten Init linkFresh _))
 
   -- both, as the demand has them
-  called : (63 < length (blocksFor bytes) → Receiving.answerOf r ≡ Receiving.received (length (blocksFor bytes)) 0 true false (length (blocksFor bytes)))
+  called : (Receiving.answerOf r ≡ Receiving.received (Receiving.summaryOf (damaged (lineIn room′ bytes) f)))
+      × (63 < length (blocksFor bytes) → Unbroken (length (blocksFor bytes)) (Receiving.summaryOf (damaged (lineIn room′ bytes) f)))
       × Survived f (blocksFor bytes) (vectorsIn (length (blocksFor bytes)) out′)
   called = (
     answer-called,
+    values-called,
     record {
       one-each = λ long. length-vectors (length (blocksFor bytes)) out′;
       from-63 = λ k late inside.

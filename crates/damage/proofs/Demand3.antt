@@ -25,12 +25,12 @@ use Rattle.sending.specs.Send.{errorBlock, sentBlocks, blocksFor, lineWords, se
 use Rattle.sending.specs.Send as Sending
 use Rattle.receiving.specs.Machine.{Tested, linkFresh}
 use Rattle.receiving.specs.Receive.{answers, vectorsOf}
-use Rattle.receiving.specs.Answer.{received, receivedFor}
-use Rattle.demands.specs.Words.{accepts}
+use Rattle.receiving.specs.Answer.{summaryOf}
+use Rattle.demands.specs.Words.{accepts, Unbroken}
 use Rattle.demands.proofs.Line.{AllFit}
 use Rattle.demands.proofs.Runs.{testedAll, valids, length-tested}
 use Rattle.demands.proofs.Lock.{FirstValid, invalids, Locks, lock-by-64, locked-at}
-use Rattle.demands.proofs.Fresh.{length-answers, fresh-vectors, fresh-answer}
+use Rattle.demands.proofs.Fresh.{length-answers, fresh-vectors, fresh-summary}
 use Rattle.demands.proofs.Descrambling.{lineBlocks, line-words, length-line, line-fits}
 use Rattle.demands.proofs.Sent.{sent-fit}
 use Rattle.demands.proofs.Accepted.{four-each, vectors-well}
@@ -108,11 +108,11 @@ module _ (most : ℕ) (far : T (all (apart most))) (small : most < 16) (h : ℕ)
     pub damaged-locks : Locks 63 linkFresh came
     damaged-locks = lock-by-64 came first-headers few-headers
 
-    -- so it is answered at the end
-    pub damaged-answer : receivedFor (damaged line f) ≡ received (length bs) 0 true false (length bs)
-    damaged-answer =
-        ap receivedFor line-is ∙ fresh-answer came groups (flipped-fits f (lineBlocks h bs)) (count ∙ four) first-headers few-headers
-        ∙ ap (λ (n : ℕ). received n 0 true false n) count
+    -- so it is summed up at the end
+    pub damaged-summary : Unbroken (length bs) (summaryOf (damaged line f))
+    damaged-summary =
+        subst₂ (λ (n : ℕ) (l : List ℕ). Unbroken n (summaryOf l)) count (sym line-is)
+        (fresh-summary came groups (flipped-fits f (lineBlocks h bs)) (count ∙ four) first-headers few-headers)
 
     -- the vectors are those of the blocks that come
     pub damaged-vectors : vectorsOf (damaged line f) ≡ answers Init (testedAll linkFresh came)
@@ -203,10 +203,10 @@ module _ (most : ℕ) (far : T (all (apart most))) (small : most < 16) (bytes : 
 
   -- The damaged line is tested block by block with no slip, and leaves the receiver locked and not high.
   pub tested : 63 < length (blocksFor bytes)
-      → receivedFor (damaged (sentLine bytes start) f) ≡ received (length (blocksFor bytes)) 0 true false (length (blocksFor bytes))
+      → Unbroken (length (blocksFor bytes)) (summaryOf (damaged (sentLine bytes start) f))
   unfolding sentLine blocksFor
   tested long =
-      damaged-answer most far small (mirror start) (mirror-lt start) (sentBlocks Init vs) (sent-fit Init vs) sound (length bytes / 40) groups f flips long
+      damaged-summary most far small (mirror start) (mirror-lt start) (sentBlocks Init vs) (sent-fit Init vs) sound (length bytes / 40) groups f flips long
 
   -- its vectors are those of the blocks that come
   pub vectors-tested : 63 < length (blocksFor bytes)

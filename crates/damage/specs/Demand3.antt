@@ -16,9 +16,9 @@ use Rattle.sending.specs.Send.{vectorsIn, errorBlock, blocksFor, sentLine}
 use Rattle.sending.specs.declared.Sending.{Sending}
 use Rattle.sending.specs.declared.Sent.the-variants as Sent
 use Rattle.receiving.specs.Receive.{vectorsOf}
-use Rattle.receiving.specs.Answer.{answerOf, received}
+use Rattle.receiving.specs.Answer.{answerOf, received, summaryOf}
 use Rattle.receiving.specs.declared.Received.{Received}
-use Rattle.demands.specs.Words.{accepts}
+use Rattle.demands.specs.Words.{accepts, Unbroken}
 use Rattle.demands.specs.Promises.{Sends, Receives}
 use Rattle.damage.specs.Damage.{damaged, Flips, flipsBefore}
 
@@ -87,5 +87,6 @@ Demand3OfCalls most =
     → (out out′ : List ℕ) (r : Received)
     → Receives (damaged (lineIn room′ bytes) flips) out r out′
     → length bytes ≤ length out
-    → (63 < length (blocksFor bytes) → answerOf r ≡ received (length (blocksFor bytes)) 0 true false (length (blocksFor bytes)))
+    → (answerOf r ≡ received (summaryOf (damaged (lineIn room′ bytes) flips)))
+    × (63 < length (blocksFor bytes) → Unbroken (length (blocksFor bytes)) (summaryOf (damaged (lineIn room′ bytes) flips)))
     × Survived flips (blocksFor bytes) (vectorsIn (length (blocksFor bytes)) out′)

@@ -12,7 +12,7 @@ use Rattle.diagrams.specs.Diagram.{afterIdle, afterData, afterError, diagramOf,
 use Rattle.diagrams.specs.declared.State.{State}
 use Rattle.diagrams.specs.declared.State.the-variants.{Init, Control, Data, Terminate, Error}
 use Rattle.receiving.specs.Machine.{Tested}
-use Rattle.receiving.specs.Receive.{letsEnd, ends, stateOf, answerIn, answers}
+use Rattle.receiving.specs.Receive.{letsEnd, ends, stateOf, answerIn, judge, answers}
 use Rattle.demands.specs.Words.{isError, legalFrom, isTerminate, endsFrame, lastEndsFrame}
 use Rattle.demands.proofs.Lock.{On}
 
@@ -20,7 +20,7 @@ use Rattle.demands.proofs.Lock.{On}
 
 -- while the receiver is not locked or high it answers Local Fault vectors, and starts anew after them
 pub not-locked : (xs ts : List Tested) → On false xs → answers Init (xs ++ ts) ≡ replicate (length xs) localFaultVector ++ answers Init ts
-unfolding answers stateOf answerIn
+unfolding answers judge stateOf answerIn
 not-locked [] ts o = refl
 not-locked (t ∷ xs) ts o = rw (o .0) (ap (λ (vs : List (List ℕ)). localFaultVector ∷ vs) (not-locked xs ts (o .1)))
 
@@ -161,7 +161,7 @@ last-tail v (w ∷ vs) z = z
 -- a legal list whose last vector does not end a frame comes back as it is
 pub unchanged : (s : State) (vs : List (List ℕ)) (ts : List Tested) → legalFrom s vs ≡ true → lastEndsFrame vs ≡ false → On true ts → Carries vs ts
     → answers s ts ≡ vs
-unfolding answers stateOf
+unfolding answers judge stateOf
 unchanged s [] [] l z o c = refl
 unchanged s [] (t ∷ ts) l z o c = absurd c
 unchanged s (v ∷ vs) [] l z o c = absurd c

@@ -1,6 +1,5 @@
 -- Demand 2 of the functions: what follows from the promises of `send` and `receive`. Assumes nothing.
 use mathlib.Core.Path.{_≡_, refl, ap, _∙_, subst}
-use mathlib.Core.Bool.{true, false}
 use mathlib.Core.List.{List, _++_, flatten}
 use Prim.Native.Nat.{ℕ, _+_, _*_, _/_, _≤_}
 use native.Mathlib.Omega.{arith}
@@ -19,10 +18,10 @@ use Rattle.sending.specs.declared.Sending.{Sending}
 use Rattle.sending.specs.declared.Sent.the-variants as Sent
 use Rattle.receiving.specs.Receive as Receive
 use Rattle.receiving.specs.Answer as Receiving
-use Rattle.receiving.specs.declared.Receiving.{Receiving}
+use Rattle.receiving.specs.declared.Summary.{Summary}
 use Rattle.receiving.specs.declared.Received.{Received}
 use Rattle.receiving.specs.declared.Received.the-variants as Received
-use Rattle.demands.specs.Words.{accepts}
+use Rattle.demands.specs.Words.{accepts, Unbroken}
 use Rattle.demands.specs.Promises.{Sends, Receives}
 use Rattle.demands.specs.Demand2.{Returnable, faults, Demand2OfCalls}
 use Rattle.demands.proofs.Accepted.{not-long}
@@ -45,16 +44,11 @@ unfolding sentLine
 length-line bytes start = length-cut 8 (33 * (length bytes / 40)) (streamBit 66 (lineWords (mirror start) (blocksFor bytes)))
 
 -- an answer with the document's values is the function's answer with these values
-received-is : (r : Received) (n : ℕ) → Receiving.answerOf r ≡ Receiving.received n 0 true false n
-    → r ≡ Received.Done (record { tested = n; slips = 0; locked = true; high = false; vectors = n })
-received-is (Received.Done x) n e =
-    let tested : x .tested ≡ n = cc in
-    let slips : x .slips ≡ 0 = cc in
-    let locked : x .locked ≡ true = cc in
-    let high : x .high ≡ false = cc in
-    let vectors : x .vectors ≡ n = cc in
-    λ i. Received.Done (record { tested = tested i; slips = slips i; locked = locked i; high = high i; vectors = vectors i })
-received-is (Received.Refused why place) n e = absurd (let z : _≡_ {A = ℕ} 0 1 = cc in omega arith)
+received-is : (r : Received) (s : Summary) → Receiving.answerOf r ≡ Receiving.received s → r ≡ Received.Done s
+received-is (Received.Done x) s e =
+    let same : x ≡ s = cc in
+    ap Received.Done same
+received-is (Received.Refused why place) s e = absurd (let z : _≡_ {A = ℕ} 0 1 = cc in omega arith)
 
 module _ (bytes : List ℕ) (start : ℕ) (room room′ : List ℕ) (s : Sending) (sends : Sends bytes start room (Sent.Done s) room′)
     (list : Returnable (Send.vectorsOf bytes)) where
@@ -87,13 +81,16 @@ module _ (bytes : List ℕ) (start : ℕ) (room room′ : List ℕ) (s : Sending
         )
 
     -- the answer
-    answer-is : r ≡ Received.Done (record { tested = length (Send.vectorsOf bytes); slips = 0; locked = true; high = false; vectors = length (Send.vectorsOf bytes) })
+    answer-is : r ≡ Received.Done (Receiving.summaryOf (sentLine bytes start))
     unfolding Receiving.receiveAnswer
     answer-is =
-        received-is r (length (Send.vectorsOf bytes))
+        received-is r (Receiving.summaryOf (sentLine bytes start))
         (receives-line .0
-        ∙ ap (λ (v : Verdict). byVerdict v (Receiving.receivedFor (sentLine bytes start)) Receiving.refused) received-too
-        ∙ demand-2 bytes start (length room) ok list .answer)
+        ∙ ap (λ (v : Verdict). byVerdict v (Receiving.received (Receiving.summaryOf (sentLine bytes start))) Receiving.refused) received-too)
+
+    -- its values
+    values-are : Unbroken (length (Send.vectorsOf bytes)) (Receiving.summaryOf (sentLine bytes start))
+    values-are = demand-2 bytes start (length room) ok list .summary
 
     -- 64 vectors and more
     many : 640 ≤ length bytes
@@ -120,4 +117,4 @@ module _ (bytes : List ℕ) (start : ℕ) (room room′ : List ℕ) (s : Sending
 -- demand 2 of the functions
 pub demand-2-of-calls : Demand2OfCalls
 demand-2-of-calls bytes start room room′ s sends list out out′ r receives enough =
-    (answer-is bytes start room room′ s sends list out out′ r receives enough, room-is bytes start room room′ s sends list out out′ r receives enough)
+    (answer-is bytes start room room′ s sends list out out′ r receives enough, values-are bytes start room room′ s sends list out out′ r receives enough, room-is bytes start room room′ s sends list out out′ r receives enough)

@@ -1,5 +1,5 @@
 -- Demand 2, proved over the definitions. Assumes nothing.
-use mathlib.Core.Path.{_≡_, refl, sym, ap, ap₂, _∙_, subst}
+use mathlib.Core.Path.{_≡_, refl, sym, ap, ap₂, _∙_, subst, subst₂}
 use mathlib.Core.Bool.{true, false, _&&_, false≢true}
 use mathlib.Core.List.{List, [], _∷_, _++_, append-assoc, flatten, map}
 use Prim.Native.Nat.{ℕ, zero, suc, _-_, _*_, _/_, _^_, _<_}
@@ -23,14 +23,14 @@ use Rattle.sending.specs.Send.{blockIn, sentBlocks, blocksFor, sentLine}
 use Rattle.receiving.specs.Machine.{Tested, linkFresh}
 use Rattle.receiving.specs.Receive as Receive
 use Rattle.receiving.specs.Receive.{answers}
-use Rattle.receiving.specs.Answer.{received, receivedFor}
+use Rattle.receiving.specs.Answer.{summaryOf}
 use Rattle.receiving.specs.declared.Link.{Link}
-use Rattle.demands.specs.Words.{accepts, legal, legalFrom, isControl, controlVector, controlVectors, lastEndsFrame}
+use Rattle.demands.specs.Words.{accepts, legal, legalFrom, isControl, controlVector, controlVectors, lastEndsFrame, Unbroken}
 use Rattle.demands.specs.Demand2.{Returnable, faults, Demand2}
 use Rattle.demands.proofs.Line.{AllFit}
 use Rattle.demands.proofs.Runs.{testedAll, valids, length-tested}
 use Rattle.demands.proofs.Lock.{invalids, FirstValid, Locks, lock-by-64}
-use Rattle.demands.proofs.Fresh.{fresh-vectors, fresh-answer}
+use Rattle.demands.proofs.Fresh.{fresh-vectors, fresh-summary}
 use Rattle.demands.proofs.Descrambling.{Reads, reads, lineBlocks, line-words, length-line, line-valids, line-fits, late-start}
 use Rattle.demands.proofs.Answers.{Carries, not-locked, unchanged, legal-tail, last-tail, and-left, and-right}
 use Rattle.demands.proofs.Sent.{Vectors, sent-fit, sent-valid, sent-first, carried}
@@ -175,10 +175,10 @@ module _ (bytes : List ℕ) (start room : ℕ) (ok : accepts bytes start room) (
       ∙ not-locked (take 63 ts) (drop 63 ts) (locks .before)
       ∙ ap₂ (λ (n : ℕ) (rest : List (List ℕ)). replicate n localFaultVector ++ rest) long-enough back
 
-  -- the answer
-  answer-back : receivedFor (sentLine bytes start) ≡ received (length vs) 0 true false (length vs)
-  answer-back =
-      ap receivedFor line-is ∙ fresh-answer bs (length bytes / 40) fits four first few ∙ ap (λ (n : ℕ). received n 0 true false n) count
+  -- the summary
+  summary-back : Unbroken (length vs) (summaryOf (sentLine bytes start))
+  summary-back =
+      subst₂ (λ (n : ℕ) (line : List ℕ). Unbroken n (summaryOf line)) count (sym line-is) (fresh-summary bs (length bytes / 40) fits four first few)
 
   -- the bytes
   octets-back : Receive.receivedVectors (sentLine bytes start) ≡ flatten faults ++ drop 630 bytes
@@ -192,4 +192,4 @@ module _ (bytes : List ℕ) (start room : ℕ) (ok : accepts bytes start room) (
 -- demand 2
 pub demand-2 : Demand2
 demand-2 bytes start room ok list =
-    record { vectors = vectors-back bytes start room ok list; octets = octets-back bytes start room ok list; answer = answer-back bytes start room ok list }
+    record { vectors = vectors-back bytes start room ok list; octets = octets-back bytes start room ok list; summary = summary-back bytes start room ok list }

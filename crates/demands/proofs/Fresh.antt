@@ -9,16 +9,17 @@ use Rattle.line.specs.declared.Block.{Block}
 use Rattle.line.specs.Word.{word}
 use Rattle.diagrams.specs.declared.State.{State}
 use Rattle.diagrams.specs.declared.State.the-variants.{Init}
-use Rattle.receiving.specs.Machine.{Tested, run, at, linkFresh}
-use Rattle.receiving.specs.Receive.{answers, runOf, vectorsOf}
-use Rattle.receiving.specs.Answer.{received, receivedFor}
+use Rattle.receiving.specs.Machine.{Tested, Run, run, at, linkFresh}
+use Rattle.receiving.specs.Receive.{judge, answers, countsOf, runOf, vectorsOf}
+use Rattle.receiving.specs.Answer.{summaryOf}
+use Rattle.demands.specs.Words.{Unbroken}
 use Rattle.demands.proofs.Line.{line-bits, AllFit}
 use Rattle.demands.proofs.Runs.{linkAfter, testedAll, valids, run-words, length-tested, slips-none}
 use Rattle.demands.proofs.Lock.{FirstValid, invalids, Locks, lock-by-64}
 
 -- one vector for each tested block
 pub length-answers : (s : State) (ts : List Tested) → length (answers s ts) ≡ length ts
-unfolding answers
+unfolding answers judge
 length-answers s [] = refl
 length-answers s (t ∷ ts) = ap suc (length-answers _ ts)
 
@@ -45,15 +46,13 @@ module _ (bs : List Block) (groups : ℕ) (fits : AllFit bs) (four : length bs �
   fresh-vectors = rw fresh-run
 
   -- as many are tested as there are blocks, with no slip, and the receiver ends locked and not high
-  pub fresh-answer : receivedFor line ≡ received (length bs) 0 true false (length bs)
-  unfolding receivedFor
-  fresh-answer =
-      rw (
-        fresh-vectors,
-        fresh-run,
-        length-answers Init (testedAll linkFresh bs),
-        length-tested linkFresh bs,
-        slips-none linkFresh bs (locks .steady),
-        locks .locked,
-        locks .calm,
-      )
+  pub fresh-summary : Unbroken (length bs) (summaryOf line)
+  unfolding summaryOf countsOf
+  fresh-summary =
+      record {
+        tested = rw (fresh-run, length-tested linkFresh bs);
+        slips = rw (fresh-run, slips-none linkFresh bs (locks .steady));
+        locked = ap (λ (r : Run). r .end .link .lock .locked) fresh-run ∙ locks .locked;
+        high = ap (λ (r : Run). r .end .link .rate .high) fresh-run ∙ locks .calm;
+        vectors = rw (fresh-vectors, length-answers Init (testedAll linkFresh bs), length-tested linkFresh bs);
+      }

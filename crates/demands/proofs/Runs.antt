@@ -10,7 +10,7 @@ use Rattle.line.specs.declared.Block.{Block}
 use Rattle.line.specs.Word.{word}
 use Rattle.diagrams.specs.Lock.{slipsOf, lockOf}
 use Rattle.diagrams.specs.declared.Lock.{Lock}
-use Rattle.receiving.specs.Receive.{slipsIn}
+use Rattle.receiving.specs.Receive.{howMany}
 use Rattle.receiving.specs.Machine.{Tested, run, at, validOf, linkOf, testedOf}
 use Rattle.receiving.specs.declared.Link.{Link}
 use Rattle.receiving.proofs.Runs.{after, run-fill}
@@ -66,7 +66,7 @@ length-tested l [] = refl
 length-tested l (b ∷ bs) = ap suc (length-tested (linkOf l (b .header) (b .payload)) bs)
 
 -- with no slip on the way none is counted
-pub slips-none : (l : Link) (bs : List Block) → Steady (l .lock) (valids bs) → slipsIn (testedAll l bs) ≡ 0
-unfolding testedAll slipsIn testedOf valids linkOf
+pub slips-none : (l : Link) (bs : List Block) → Steady (l .lock) (valids bs) → howMany (λ t. t .slipped) (testedAll l bs) ≡ 0
+unfolding testedAll howMany testedOf valids linkOf
 slips-none l [] calm = refl
 slips-none l (b ∷ bs) calm = rw (calm .0) (omega (arith, slips-none (linkOf l (b .header) (b .payload)) bs (calm .1)))

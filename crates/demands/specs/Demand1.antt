@@ -54,7 +54,7 @@ Demand1OfReceive =
     (line room : List ℕ) (r : Received) (room′ : List ℕ) → Receives line room r room′
     → Outcome {A = Receiving.ReceiveAnswer × List ℕ} (Receiving.receiveChecks (length line) (length room))
     (Receiving.answerOf r, room′)
-    (Receiving.receivedFor line, receivedVectors line ++ drop (length (receivedVectors line)) room)
+    (Receiving.received (Receiving.summaryOf line), receivedVectors line ++ drop (length (receivedVectors line)) room)
     (λ number place. (Receiving.refused number place, room))
 
 -- writing a record

@@ -11,10 +11,10 @@ use Rattle.sending.specs.Send as Send
 use Rattle.sending.specs.declared.Sending.{Sending}
 use Rattle.sending.specs.declared.Sent.the-variants as Sent
 use Rattle.receiving.specs.Receive as Receive
-use Rattle.receiving.specs.Answer.{received, receivedFor}
+use Rattle.receiving.specs.Answer.{summaryOf}
 use Rattle.receiving.specs.declared.Received.{Received}
 use Rattle.receiving.specs.declared.Received.the-variants as Received
-use Rattle.demands.specs.Words.{accepts, legal, controlVectors, lastEndsFrame}
+use Rattle.demands.specs.Words.{accepts, legal, controlVectors, lastEndsFrame, Unbroken}
 use Rattle.demands.specs.Promises.{Sends, Receives}
 
 -- the lists that the demand speaks of: legal, the first 64 control vectors (so there are 64), the last not the end of a frame
@@ -32,7 +32,7 @@ faults = replicate 63 localFaultVector
 pub record Returned (bytes : List ℕ) (start : ℕ) : Type 0 where
   pub vectors : Receive.vectorsOf (Send.sentLine bytes start) ≡ faults ++ drop 63 (Send.vectorsOf bytes)
   pub octets : Receive.receivedVectors (Send.sentLine bytes start) ≡ flatten faults ++ drop 630 bytes
-  pub answer : receivedFor (Send.sentLine bytes start) ≡ received (length (Send.vectorsOf bytes)) 0 true false (length (Send.vectorsOf bytes))
+  pub summary : Unbroken (length (Send.vectorsOf bytes)) (summaryOf (Send.sentLine bytes start))
 
 -- the demand
 abbrev pub Demand2 : Type 0
@@ -48,5 +48,6 @@ Demand2OfCalls =
     → (out out′ : List ℕ) (r : Received)
     → Receives (take (33 * (length bytes / 40)) room′) out r out′
     → length bytes ≤ length out
-    → (r ≡ Received.Done (record { tested = length (Send.vectorsOf bytes); slips = 0; locked = true; high = false; vectors = length (Send.vectorsOf bytes) }))
+    → (r ≡ Received.Done (summaryOf (Send.sentLine bytes start)))
+    × Unbroken (length (Send.vectorsOf bytes)) (summaryOf (Send.sentLine bytes start))
     × (out′ ≡ flatten faults ++ drop 630 bytes ++ drop (length bytes) out)

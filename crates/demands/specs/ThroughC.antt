@@ -54,6 +54,6 @@ Demand1OfReceiveThroughC =
     (r, room′, summary′) (
       0,
       receivedVectors line ++ drop (length (receivedVectors line)) room,
-      Boundary.summaryBytes (Boundary.receiveWords (Receiving.receivedFor line)) ++ drop 40 summary,
+      Boundary.summaryBytes (Boundary.receiveWords (Receiving.received (Receiving.summaryOf line))) ++ drop 40 summary,
     )
     (λ number place. (number + 256 * place, room, zeroed 5 summary))

@@ -11,6 +11,7 @@ use Rattle.diagrams.specs.Diagram.{transmitOf}
 use Rattle.diagrams.specs.declared.State.{State}
 use Rattle.diagrams.specs.declared.State.the-variants.{Init, Control, Data, Terminate, Error}
 use Rattle.sending.specs.Answer.{sendChecks}
+use Rattle.receiving.specs.declared.Summary.{Summary}
 
 -- Sending accepts vector bytes, from a start state and with room for the line: none of its refusals applies.
 abbrev pub accepts : (bytes : List ℕ) (start room : ℕ) → Type 0
@@ -67,3 +68,11 @@ unfoldable pub lastEndsFrame : List (List ℕ) → Bool
 lastEndsFrame [] = false
 lastEndsFrame (v ∷ []) = endsFrame v
 lastEndsFrame (v ∷ w ∷ vs) = lastEndsFrame (w ∷ vs)
+
+-- a summary of n blocks tested with no slip, a vector for each, that leave the receiver locked and not high
+pub record Unbroken (n : ℕ) (s : Summary) : Type 0 where
+  pub tested : s .counts .tested ≡ n
+  pub slips : s .counts .slips ≡ 0
+  pub locked : s .locked ≡ true
+  pub high : s .high ≡ false
+  pub vectors : s .vectors ≡ n

@@ -8,18 +8,18 @@ use lib.ListN.{length, drop}
 use lib.Dec.{ltb}
 use borrow.Author.Tests.{lt-ltb}
 use Rattle.refusals.specs.First.{check, Verdict, accepted, refused, first, byVerdict}
-use Rattle.receiving.specs.Answer.{ReceiveAnswer, received, receiveChecks, receivedFor, receiveAnswer, receiveRoom}
+use Rattle.receiving.specs.Answer.{ReceiveAnswer, received, receiveChecks, summaryOf, receiveAnswer, receiveRoom}
 use Rattle.receiving.specs.Answer as Answer
+use Rattle.receiving.specs.declared.Summary.{Summary}
 use Rattle.holzmotte.specs.Boundary.{resultOf, after, summaryBytes, flagWord, tooShort, receiveVerdict, receiveWords, receiveResult, receiveVectors, receiveSummary}
 use Rattle.holzmotte.proofs.Laws.{long-first, shortOf, kept, summary-short, summary-long}
 
 -- an answer tells the verdict
 abbrev pub verdictOf : ReceiveAnswer → Verdict
-verdictOf (received tested slips locked high vectors) = accepted
+verdictOf (received s) = accepted
 verdictOf (Answer.refused number place) = refused number place
 
-told : (v : Verdict) (line : List ℕ) → verdictOf (byVerdict v (receivedFor line) Answer.refused) ≡ v
-unfolding receivedFor
+told : (v : Verdict) (line : List ℕ) → verdictOf (byVerdict v (received (summaryOf line)) Answer.refused) ≡ v
 told accepted line = refl
 told (refused n p) line = refl
 
@@ -106,8 +106,8 @@ answered line room summary room′ summary′ answer l e r s =
     )
 
 -- the words, with the flags as they were made
-pub flagged : (tested slips l h vectors : ℕ) (locked high : Bool) (rest summary : List ℕ) → l ≡ flagWord locked → h ≡ flagWord high
-    → summary ≡ summaryBytes (tested ∷ slips ∷ l ∷ h ∷ vectors ∷ []) ++ rest
-    → summary ≡ summaryBytes (receiveWords (received tested slips locked high vectors)) ++ rest
-flagged tested slips l h vectors locked high rest summary e f s =
-    s ∙ ap₂ (λ (x y : ℕ). summaryBytes (tested ∷ slips ∷ x ∷ y ∷ vectors ∷ []) ++ rest) e f
+pub flagged : (s : Summary) (l h : ℕ) (rest summary : List ℕ) → l ≡ flagWord (s .locked) → h ≡ flagWord (s .high)
+    → summary ≡ summaryBytes (s .counts .tested ∷ s .counts .slips ∷ l ∷ h ∷ s .vectors ∷ []) ++ rest
+    → summary ≡ summaryBytes (receiveWords (received s)) ++ rest
+flagged s l h rest summary e f put =
+    put ∙ ap₂ (λ (x y : ℕ). summaryBytes (s .counts .tested ∷ s .counts .slips ∷ x ∷ y ∷ s .vectors ∷ []) ++ rest) e f

@@ -66,7 +66,7 @@ flagWord b = cond b 1 0
 
 -- its five words: tested, slips, locked, high, vectors; zeros for a refusal
 abbrev pub receiveWords : Receive.ReceiveAnswer → List ℕ
-receiveWords (Receive.received tested slips locked high vectors) = tested ∷ slips ∷ flagWord locked ∷ flagWord high ∷ vectors ∷ []
+receiveWords (Receive.received s) = s .counts .tested ∷ s .counts .slips ∷ flagWord (s .locked) ∷ flagWord (s .high) ∷ s .vectors ∷ []
 receiveWords (Receive.refused number place) = 0 ∷ 0 ∷ 0 ∷ 0 ∷ 0 ∷ []
 
 unfoldable pub receiveResult : (line room summary : ℕ) → ℕ

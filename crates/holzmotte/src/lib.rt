@@ -108,14 +108,15 @@ pub extern "C" fn holzmotte_receive(line: &[u8], vectors: &mut [u8], summary: &m
         return receive_short(line);
     }
     match receive(line, vectors) {
-        Received::Done(r) => {
+        Received::Done(s) => {
+            let c = s.counts;
             put_five(
                 summary,
-                r.tested,
-                r.slips,
-                flag(r.locked),
-                flag(r.high),
-                r.vectors,
+                c.tested,
+                c.slips,
+                flag(s.locked),
+                flag(s.high),
+                s.vectors,
             );
             0
         }

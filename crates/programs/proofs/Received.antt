@@ -1,7 +1,6 @@
 -- What the receiver writes, from what receiving promises.
 use Prim.Native.Nat.{ℕ, _*_, _/_, _≤_}
 use mathlib.Core.Path.{_≡_, refl, sym, ap, subst, _∙_}
-use mathlib.Core.Bool.{Bool}
 use mathlib.Core.List.{List, _++_}
 use native.Mathlib.Omega.{arith}
 use lib.ListN.{length, drop, length-append, length-drop}
@@ -18,7 +17,8 @@ use Rattle.diagrams.specs.declared.State.the-variants.{Init}
 use Rattle.receiving.specs.Machine.{at, linkFresh}
 use Rattle.receiving.specs.Receive.{runOf, vectorsOf, receivedVectors}
 use Rattle.receiving.proofs.Count.{length-answers, tens-run, length-vectors, vectors-fit}
-use Rattle.receiving.specs.Answer.{ReceiveAnswer, received, refused, receiveChecks, receivedFor, receiveAnswer, receiveRoom}
+use Rattle.receiving.specs.Answer.{ReceiveAnswer, received, refused, receiveChecks, summaryOf, receiveAnswer, receiveRoom}
+use Rattle.receiving.specs.declared.Summary.{Summary}
 use Rattle.programs.specs.Programs.{receivedText, receiverOutput}
 use Rattle.programs.proofs.Outcomes.{body-first}
 
@@ -28,14 +28,14 @@ unfolding receivedVectors vectorsOf runOf
 tens line = length-vectors Init (tens-run (at linkFresh) (lineBits line)) ∙ ap (λ (n : ℕ). 10 * n) (sym (length-answers Init (runOf line .tested)))
 
 -- An answer that is no refusal was accepted, and is the answer for the line.
-accepted-by : (v : Verdict) (x : ReceiveAnswer) (t s : ℕ) (l h : Bool) (n : ℕ) → received t s l h n ≡ byVerdict v x refused → (v ≡ accepted) × (received t s l h n ≡ x)
-accepted-by accepted x t s l h n e = (refl, e)
-accepted-by (refuses m p) x t s l h n e = absurd (let z : _≡_ {A = ℕ} 0 1 = cc in omega arith)
+accepted-by : (v : Verdict) (x : ReceiveAnswer) (z : Summary) → received z ≡ byVerdict v x refused → (v ≡ accepted) × (received z ≡ x)
+accepted-by accepted x z e = (refl, e)
+accepted-by (refuses m p) x z e = absurd (let z : _≡_ {A = ℕ} 0 1 = cc in omega arith)
 
 -- All that the receiver writes fits.
 summary-fits : (line : List ℕ) (x : ReceiveAnswer) → length line ≤ 49500 → length (receivedText line x) ≤ 126109
-summary-fits line (received t s l h n) f =
-    omega (arith, length-append (hexLines (receivedVectors line)) (summaryLines t s l h), lines-length (receivedVectors line), summary-length t s l h, vectors-fit line)
+summary-fits line (received z) f =
+    omega (arith, length-append (hexLines (receivedVectors line)) (summaryLines (z .counts .tested) (z .counts .slips) (z .locked) (z .high)), lines-length (receivedVectors line), summary-length (z .counts .tested) (z .counts .slips) (z .locked) (z .high), vectors-fit line)
 summary-fits line (refused n p) f = omega (arith, refused-length n)
 
 -- A refusal's line.
@@ -56,12 +56,12 @@ receiver-short (stop n b) h = omega (arith, refused-length n)
 receiver-short (more b) h = omega arith
 
 module _ (line vectors : List ℕ) (room : length vectors ≡ 60000) where
-  module _ (after : List ℕ) (tested slips : ℕ) (locked high : Bool) (n : ℕ)
-      (e : received tested slips locked high n ≡ receiveAnswer line (length vectors)) (s : after ≡ receiveRoom line vectors) (same : length after ≡ length vectors) where
+  module _ (after : List ℕ) (z : Summary)
+      (e : received z ≡ receiveAnswer line (length vectors)) (s : after ≡ receiveRoom line vectors) (same : length after ≡ length vectors) where
     -- The line was accepted, and this is its answer.
-    answered : (first (receiveChecks (length line) (length vectors)) ≡ accepted) × (received tested slips locked high n ≡ receivedFor line)
+    answered : (first (receiveChecks (length line) (length vectors)) ≡ accepted) × (received z ≡ received (summaryOf line))
     unfolding receiveAnswer
-    answered = accepted-by (first (receiveChecks (length line) (length vectors))) (receivedFor line) tested slips locked high n e
+    answered = accepted-by (first (receiveChecks (length line) (length vectors))) (received (summaryOf line)) z e
 
     -- What receiving left in the room.
     room-is : after ≡ receivedVectors line ++ drop (length (receivedVectors line)) vectors
@@ -69,24 +69,25 @@ module _ (line vectors : List ℕ) (room : length vectors ≡ 60000) where
     room-is = s ∙ rw (answered .0)
 
     -- So many vectors were received.
-    pub vectors-count : 10 * n ≡ length (receivedVectors line)
-    unfolding receivedFor
+    pub vectors-count : 10 * z .vectors ≡ length (receivedVectors line)
+    unfolding summaryOf
     vectors-count =
-        let a : received tested slips locked high n ≡ received _ _ _ _ (length (vectorsOf line)) = answered .1 in
-        let k : n ≡ length (vectorsOf line) = cc in
+        let a : received z ≡ received (summaryOf line) = answered .1 in
+        let s : z ≡ summaryOf line = cc in
+        let k : z .vectors ≡ length (vectorsOf line) = ap (λ (y : Summary). y .vectors) s in
         omega (arith, tens line)
 
     -- They are no more than the room holds.
-    pub vectors-small : 10 * n ≤ 60000
+    pub vectors-small : 10 * z .vectors ≤ 60000
     vectors-small =
         let l = ap length room-is ∙ length-append (receivedVectors line) (drop (length (receivedVectors line)) vectors) in
         omega (arith, vectors-count, length-drop (length (receivedVectors line)) vectors)
 
     -- Receiving succeeded: the vectors stand at the start of the room.
-    vectors-are : bodyOf after 0 (10 * n) ≡ receivedVectors line
-    vectors-are = body-first (receivedVectors line) (drop (length (receivedVectors line)) vectors) after (10 * n) room-is vectors-count
+    vectors-are : bodyOf after 0 (10 * z .vectors) ≡ receivedVectors line
+    vectors-are = body-first (receivedVectors line) (drop (length (receivedVectors line)) vectors) after (10 * z .vectors) room-is vectors-count
 
-    module _ (body : List ℕ) (b : body ≡ bodyOf after 0 (10 * n)) where
+    module _ (body : List ℕ) (b : body ≡ bodyOf after 0 (10 * z .vectors)) where
       -- Their lines fit the output.
       pub lines-fit : 21 * (length body / 10) ≤ 126000
       lines-fit = let l = ap length (b ∙ vectors-are) in omega (arith, vectors-count, vectors-small)
@@ -97,13 +98,13 @@ module _ (line vectors : List ℕ) (room : length vectors ≡ 60000) where
         lines-end = omega (arith, w .ends, lines-length body, lines-fit)
 
         -- The lines of the vectors and the summary are what the receiver writes.
-        pub received-written : (exit : List ℕ) (r : ℕ) → 126109 ≤ length out → Writes k (summaryLines tested slips locked high) mid r exit → Writes 0 (receiverOutput (done line)) out r exit
+        pub received-written : (exit : List ℕ) (r : ℕ) → 126109 ≤ length out → Writes k (summaryLines (z .counts .tested) (z .counts .slips) (z .locked) (z .high)) mid r exit → Writes 0 (receiverOutput (done line)) out r exit
         unfolding receiverOutput
         received-written exit r f v =
             let w₁ = subst (λ (x : List ℕ). Writes 0 (hexLines x) out k mid) (b ∙ vectors-are) w in
             subst (λ (x : ReceiveAnswer). Writes 0 (receivedText line x) out r exit) (e ∙ ap (receiveAnswer line) room)
-            (writes-on 0 k r (hexLines (receivedVectors line)) (summaryLines tested slips locked high) out mid exit w₁ v
-            (omega (arith, w₁ .ends, v .ends, lines-end, summary-length tested slips locked high)))
+            (writes-on 0 k r (hexLines (receivedVectors line)) (summaryLines (z .counts .tested) (z .counts .slips) (z .locked) (z .high)) out mid exit w₁ v
+            (omega (arith, w₁ .ends, v .ends, lines-end, summary-length (z .counts .tested) (z .counts .slips) (z .locked) (z .high))))
 
   -- Receiving refused: its line is what the receiver writes.
   pub refused-written : (out exit : List ℕ) (r n p : ℕ) → refused n p ≡ receiveAnswer line (length vectors)

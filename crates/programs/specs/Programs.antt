@@ -35,7 +35,7 @@ senderOutput (more before) = inputFailedLine
 
 -- "prints each vector as 20 hex digits, then four lines"; or a refusal's line
 abbrev pub receivedText : (line : List ℕ) → ReceiveAnswer → List ℕ
-receivedText line (received tested slips locked high vectors) = hexLines (receivedVectors line) ++ summaryLines tested slips locked high
+receivedText line (received s) = hexLines (receivedVectors line) ++ summaryLines (s .counts .tested) (s .counts .slips) (s .locked) (s .high)
 receivedText line (receiveRefused number place) = refusedLine number
 
 -- the receiver

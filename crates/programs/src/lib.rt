@@ -75,7 +75,8 @@ fn received_output(line: &[u8], vectors: &mut [u8], out: &mut [u8]) -> usize
         Received::Done(s) => {
             let n = 10 * s.vectors as usize;
             let k = display::hex_lines(records::body(vectors, 0, n), out, 0);
-            display::summary_lines(s.tested, s.slips, s.locked, s.high, out, k)
+            let c = s.counts;
+            display::summary_lines(c.tested, c.slips, s.locked, s.high, out, k)
         }
         Received::Refused(why, _) => display::refused_line(why, out, 0),
     }

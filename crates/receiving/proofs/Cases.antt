@@ -9,18 +9,18 @@ use Rattle.block.specs.Block.{localFaultVector}
 use Rattle.diagrams.specs.Lock.{lockFresh, lockOf, slipsOf, countedOf, invalidOf}
 use Rattle.diagrams.specs.Rate.{rateOf, windowOf}
 use Rattle.receiving.specs.Machine.{run, feed, filled, testedOf, linkOf, validOf}
-use Rattle.receiving.specs.Receive.{answers, stateOf, answerIn, ends, letsEnd, slipsIn, runOf, vectorsOf, receivedVectors}
-use Rattle.receiving.specs.Answer.{received, receivedFor}
+use Rattle.receiving.specs.Receive.{judge, answers, stateOf, answerIn, ends, letsEnd, howMany, countsOf, runOf, vectorsOf, receivedVectors}
+use Rattle.receiving.specs.Answer.{summaryOf}
 use Rattle.receiving.proofs.Steps.{lockSteps}
 
 -- Document 01's receiver example: nine zero bytes are one block with an invalid header, which slips.
 nine-zeros : receivedVectors (replicate 9 0) ≡ localFaultVector
-unfolding receivedVectors vectorsOf runOf run feed filled lineBits lineBit listed streamBit bit number testedOf linkOf validOf answers stateOf answerIn ends letsEnd lockOf slipsOf countedOf invalidOf rateOf windowOf flatten
+unfolding receivedVectors vectorsOf runOf run feed filled lineBits lineBit listed streamBit bit number testedOf linkOf validOf answers judge stateOf answerIn ends letsEnd lockOf slipsOf countedOf invalidOf rateOf windowOf flatten
 nine-zeros = refl
 
 -- its counts
-nine-zeros-counts : receivedFor (replicate 9 0) ≡ received 1 1 false false 1
-unfolding receivedFor vectorsOf runOf run feed filled lineBits lineBit listed streamBit bit number testedOf linkOf validOf answers stateOf answerIn ends letsEnd lockOf slipsOf countedOf invalidOf rateOf windowOf slipsIn
+nine-zeros-counts : summaryOf (replicate 9 0) ≡ record { counts = record { tested = 1; slips = 1 }; locked = false; high = false; vectors = 1 }
+unfolding summaryOf countsOf vectorsOf runOf run feed filled lineBits lineBit listed streamBit bit number testedOf linkOf validOf answers judge stateOf answerIn ends letsEnd lockOf slipsOf countedOf invalidOf rateOf windowOf howMany
 nine-zeros-counts = refl
 
 -- ---- the lock's steps over headers, each by whether it is valid

@@ -2,7 +2,7 @@
 use Prim.Native.Nat.{ℕ, _+_, _*_, _/_, _≤_}
 use mathlib.Core.Path.{_≡_, sym, ap, ap₂, _∙_}
 use mathlib.Core.Bool.{false}
-use mathlib.Core.List.{List, _++_, append-assoc, flatten}
+use mathlib.Core.List.{List, _++_, append-assoc}
 use native.Mathlib.Omega.{arith}
 use lib.ListN.{length, take, drop, length-append}
 use lib.Seq.{drop-drop, length-take-le}
@@ -10,13 +10,15 @@ use Rattle.bits.specs.Bits.{lineBits}
 use Rattle.diagrams.specs.declared.State.{State}
 use Rattle.diagrams.specs.declared.State.the-variants.{Init}
 use Rattle.receiving.specs.Machine.{Feed, Run, Tested, run}
-use Rattle.receiving.specs.Receive.{answers, slipsIn, runOf, vectorsOf, receivedVectors}
-use Rattle.receiving.specs.Answer.{received, receivedFor}
-use Rattle.receiving.specs.Loop.{heldIn, feedIn, settle, Settled, Fresh, Ends, written, heldBytes}
+use Rattle.receiving.specs.Receive.{judge, answers, countsOf, runOf, vectorsOf, receivedVectors}
+use Rattle.receiving.specs.Answer.{summaryOf}
+use Rattle.receiving.specs.Loop.{heldIn, feedIn, settle, bytesOf, Settled, Fresh, Ends, written, heldBytes}
+use Rattle.receiving.specs.declared.Counts.{Counts}
+use Rattle.receiving.specs.declared.Summary.{Summary}
 use Rattle.receiving.specs.declared.Receiver.{Receiver}
 use Rattle.receiving.specs.declared.Progress.{Progress}
 use Rattle.receiving.proofs.Count.{length-answers, vectors-fit}
-use Rattle.receiving.proofs.Settle.{settled, last-bytes, flatten-append}
+use Rattle.receiving.proofs.Settle.{settled, last-bytes, bytes-append}
 
 module _ (line room : List ℕ) (r : Receiver) (f : Fresh r) (enough : 10 * (8 * length line / 66) ≤ length room) where
   -- a fresh receiver's run is that of the definition
@@ -36,18 +38,18 @@ module _ (line room : List ℕ) (r : Receiver) (f : Fresh r) (enough : 10 * (8 *
       ∙ ap (λ (z : Run). settle Init (z .tested)) run-is
 
   -- the vectors of the line: those settled, and that of the last block
-  all-bytes : receivedVectors line ≡ flatten (σ .vectors) ++ flatten (answers (σ .state) (σ .held))
-  unfolding receivedVectors vectorsOf
-  all-bytes = ap flatten (settled Init (runOf line .tested)) ∙ flatten-append (σ .vectors) (answers (σ .state) (σ .held))
+  all-bytes : receivedVectors line ≡ bytesOf (σ .judged) ++ bytesOf (judge (σ .state) (σ .held))
+  unfolding receivedVectors vectorsOf answers
+  all-bytes = ap bytesOf (settled Init (runOf line .tested)) ∙ bytes-append (σ .judged) (judge (σ .state) (σ .held))
 
   -- what the loop writes fits the room
   pub written-fits : length (written r line) ≤ length room
   written-fits =
       omega (
         arith,
-        ap (λ (z : Settled). length (flatten (z .vectors))) settle-is,
+        ap (λ (z : Settled). length (bytesOf (z .judged))) settle-is,
         ap length all-bytes,
-        length-append (flatten (σ .vectors)) (flatten (answers (σ .state) (σ .held))),
+        length-append (bytesOf (σ .judged)) (bytesOf (judge (σ .state) (σ .held))),
         vectors-fit line,
       )
 
@@ -61,9 +63,9 @@ module _ (line room : List ℕ) (r : Receiver) (f : Fresh r) (enough : 10 * (8 *
     unfolding heldIn
     all-are =
         all-bytes
-        ∙ ap₂ (λ (x : List ℕ) (z : Settled). x ++ flatten (answers (z .state) (z .held)))
-        (sym (e .bytes ∙ ap (λ (z : Settled). flatten (z .vectors)) settle-is)) (sym settle-is)
-        ∙ ap₂ (λ (s : State) (h : List Tested). take (p .at) room₁ ++ flatten (answers s h)) (sym (e .state)) (sym (e .held))
+        ∙ ap₂ (λ (x : List ℕ) (z : Settled). x ++ bytesOf (judge (z .state) (z .held)))
+        (sym (e .bytes ∙ ap (λ (z : Settled). bytesOf (z .judged)) settle-is)) (sym settle-is)
+        ∙ ap₂ (λ (s : State) (h : List Tested). take (p .at) room₁ ++ bytesOf (judge s h)) (sym (e .state)) (sym (e .held))
         ∙ ap (λ (l : List ℕ). take (p .at) room₁ ++ l) (last-bytes (p .receiver .have) (p .receiver .state) (p .receiver .held))
 
     -- how many bytes that is
@@ -86,10 +88,11 @@ module _ (line room : List ℕ) (r : Receiver) (f : Fresh r) (enough : 10 * (8 *
         ∙ ap (λ (n : ℕ). drop n room) (sym all-length))
 
     -- the counts are those of the definition
-    pub answer-is : received (p .tested) (p .slips) (p .receiver .link .lock .locked) (p .receiver .link .rate .high) (p .tested) ≡ receivedFor line
-    unfolding receivedFor vectorsOf feedIn
-    answer-is =
-        let n : p .tested ≡ length (runOf line .tested) = e .tested ∙ ap (λ (z : Run). length (z .tested)) run-is in
-        let m : p .slips ≡ slipsIn (runOf line .tested) = e .slips ∙ ap (λ (z : Run). slipsIn (z .tested)) run-is in
+    pub summary-is : _≡_ {A = Summary}
+        (record { counts = p .counts; locked = p .receiver .link .lock .locked; high = p .receiver .link .rate .high; vectors = p .counts .tested })
+        (summaryOf line)
+    unfolding summaryOf countsOf vectorsOf feedIn
+    summary-is =
+        let n : p .counts ≡ countsOf (runOf line .tested) = e .counts ∙ ap (λ (z : Run). countsOf (z .tested)) run-is in
         let l : p .receiver .link ≡ runOf line .end .link = ap (λ (z : Feed). z .link) (e .feed) ∙ ap (λ (z : Run). z .end .link) run-is in
-        rw (n, m, l, length-answers)
+        rw (n, l, length-answers)

@@ -12,7 +12,7 @@ use Rattle.block.specs.Block.{decoded, formatOf, valid, vectorOf, errorVector}
 use Rattle.diagrams.specs.declared.State.{State}
 use Rattle.diagrams.specs.declared.State.the-variants.{Init, Control, Data, Terminate, Error}
 use Rattle.receiving.specs.Machine.{Feed, Tested, at, fills, feed, filled, run, testedOf, linkFresh}
-use Rattle.receiving.specs.Receive.{stateOf, ends, answerIn, answers, slipsIn, runOf, vectorsOf, receivedVectors}
+use Rattle.receiving.specs.Receive.{stateOf, ends, answerIn, judge, answers, runOf, vectorsOf, receivedVectors}
 
 -- ---- a block takes 66 bits
 bits-used : (f : Feed) (b : ℕ) (s g : Bool) → f .skip ≡ s → fills f ≡ g → length (f .bits) < 66
@@ -37,19 +37,9 @@ pub tested-few : (line : List ℕ) → length (runOf line .tested) ≤ 8 * lengt
 unfolding runOf
 tested-few line = omega (arith, tested-bits (at linkFresh) (lineBits line) (omega arith), length-lineBits line)
 
--- no more slips than blocks
-pub slips-few : (ts : List Tested) → slipsIn ts ≤ length ts
-unfolding slipsIn
-slips-few [] = omega arith
-slips-few (t ∷ ts) = go (t .slipped) (slips-few ts)
-  where
-    go : (b : Bool) → slipsIn ts ≤ length ts → cond b 1 0 + slipsIn ts ≤ suc (length ts)
-    go true h = omega arith
-    go false h = omega arith
-
 -- ---- "one for each tested block"
 pub length-answers : (s : State) (ts : List Tested) → length (answers s ts) ≡ length ts
-unfolding answers
+unfolding answers judge
 length-answers s [] = refl
 length-answers s (t ∷ ts) = ap suc (length-answers (stateOf s t (ends ts)) ts)
 
@@ -91,7 +81,7 @@ length-answer Error v e = refl
 
 -- ten bytes for each block
 pub length-vectors : (s : State) {ts : List Tested} → Tens ts → length (flatten (answers s ts)) ≡ 10 * length ts
-unfolding answers flatten
+unfolding answers judge flatten
 length-vectors s none = refl
 length-vectors s (more {t = t} {ts = ts} e r) =
     let s′ = stateOf s t (ends ts) in

@@ -2,6 +2,7 @@ pub mod Runs
 pub mod Steps
 pub mod Ranges
 pub mod Count
+pub mod Counted
 pub mod Settle
 pub mod Turning
 pub mod Closing

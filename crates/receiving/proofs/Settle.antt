@@ -11,8 +11,8 @@ use Rattle.decoding.specs.Vector.{vectorBytes}
 use Rattle.decoding.specs.declared.Vector.{Vector}
 use Rattle.diagrams.specs.declared.State.{State}
 use Rattle.receiving.specs.Machine.{Tested}
-use Rattle.receiving.specs.Receive.{letsEnd, ends, stateOf, answerIn, answers}
-use Rattle.receiving.specs.Loop.{testedIn, settle, heldState, heldBytes}
+use Rattle.receiving.specs.Receive.{letsEnd, ends, stateOf, answerIn, Judged, judge, answer}
+use Rattle.receiving.specs.Loop.{testedIn, Settled, settle, bytesOf, heldState, heldBytes}
 use Rattle.receiving.specs.declared.Held.{Held}
 use Rattle.receiving.proofs.Count.{length-answer}
 
@@ -80,8 +80,8 @@ holding have h = cond have (testedIn h ∷ []) []
 module _ (s : State) (h : Held) (t : Tested) (ts : List Tested) where
   -- the bytes: those of the block held, and then those of the rest
   pub settle-bytes : (have : Bool)
-      → flatten (settle s (holding have h ++ t ∷ ts) .vectors)
-      ≡ heldBytes have s h (letsEnd t) ++ flatten (settle (heldState have s h (letsEnd t)) (t ∷ ts) .vectors)
+      → bytesOf (settle s (holding have h ++ t ∷ ts) .judged)
+      ≡ heldBytes have s h (letsEnd t) ++ bytesOf (settle (heldState have s h (letsEnd t)) (t ∷ ts) .judged)
   unfolding settle flatten testedIn
   settle-bytes true = refl
   settle-bytes false = refl
@@ -101,26 +101,41 @@ module _ (s : State) (h : Held) (t : Tested) (ts : List Tested) where
 -- ---- the end of the line
 
 -- a block that is held stays held
-pub settle-last : (have : Bool) (s : State) (h : Held) → settle s (holding have h ++ []) ≡ record { vectors = []; state = s; held = holding have h }
+pub settle-last : (have : Bool) (s : State) (h : Held) → settle s (holding have h ++ []) ≡ record { judged = []; state = s; held = holding have h }
 unfolding settle
 settle-last true s h = refl
 settle-last false s h = refl
 
--- the vectors of all blocks: those settled, and then that of the block held, with no next block
-pub settled : (s : State) (ts : List Tested) → answers s ts ≡ settle s ts .vectors ++ answers (settle s ts .state) (settle s ts .held)
-unfolding answers settle ends
+-- all blocks in their states: those settled, and then the block held, with no next block
+pub settled : (s : State) (ts : List Tested) → judge s ts ≡ settle s ts .judged ++ judge (settle s ts .state) (settle s ts .held)
+unfolding judge settle ends
 settled s [] = refl
 settled s (t ∷ []) = refl
-settled s (t ∷ u ∷ ts) = ap (λ (l : List (List ℕ)). answerIn (stateOf s t (letsEnd u)) (t .vector) ∷ l) (settled (stateOf s t (letsEnd u)) (u ∷ ts))
+settled s (t ∷ u ∷ ts) = ap (λ (l : List Judged). record { state = stateOf s t (letsEnd u); block = t } ∷ l) (settled (stateOf s t (letsEnd u)) (u ∷ ts))
+
+-- what is settled of joined lists: of the first, and then of the block held and the second
+pub settle-append : (s : State) (a b : List Tested)
+    → settle s (a ++ b)
+    ≡ record {
+      judged = settle s a .judged ++ settle (settle s a .state) (settle s a .held ++ b) .judged;
+      state = settle (settle s a .state) (settle s a .held ++ b) .state;
+      held = settle (settle s a .state) (settle s a .held ++ b) .held;
+    }
+unfolding settle
+settle-append s [] b = refl
+settle-append s (t ∷ []) b = refl
+settle-append s (t ∷ u ∷ a) b =
+    let s′ = stateOf s t (letsEnd u) in
+    ap (λ (z : Settled). record { judged = record { state = s′; block = t } ∷ z .judged; state = z .state; held = z .held }) (settle-append s′ (u ∷ a) b)
 
 -- the vector of the block held at the end of the input
-pub last-bytes : (have : Bool) (s : State) (h : Held) → flatten (answers s (holding have h)) ≡ heldBytes have s h false
-unfolding answers ends flatten testedIn
+pub last-bytes : (have : Bool) (s : State) (h : Held) → bytesOf (judge s (holding have h)) ≡ heldBytes have s h false
+unfolding judge ends flatten testedIn
 last-bytes true s h = append-nil _
 last-bytes false s h = refl
 
--- the bytes of joined lists of vectors
-pub flatten-append : (a b : List (List ℕ)) → flatten (a ++ b) ≡ flatten a ++ flatten b
+-- the bytes of joined lists of blocks
+pub bytes-append : (a b : List Judged) → bytesOf (a ++ b) ≡ bytesOf a ++ bytesOf b
 unfolding flatten
-flatten-append [] b = refl
-flatten-append (x ∷ a) b = ap (λ (l : List ℕ). x ++ l) (flatten-append a b) ∙ sym (append-assoc x (flatten a) (flatten b))
+bytes-append [] b = refl
+bytes-append (j ∷ a) b = ap (λ (l : List ℕ). answer j ++ l) (bytes-append a b) ∙ sym (append-assoc (answer j) (bytesOf a) (bytesOf b))

@@ -5,7 +5,6 @@ use mathlib.Core.Path.{_≡_, refl, sym, ap, ap₂, _∙_, subst}
 use mathlib.Core.Bool.{Bool, true, false, cond}
 use mathlib.Core.List.{List, [], _∷_, _++_, append-assoc, append-nil, flatten}
 use native.Mathlib.Omega.{arith}
-use native.Mathlib.Nat.{add-assoc}
 use native.Mathlib.Numerals.{add-one}
 use lib.ListN.{length, getD, take, drop, length-append, take-append-drop, drop-of-length-le}
 use lib.Seq.{drop-drop, drop-cons, length-take-le}
@@ -17,15 +16,18 @@ use Rattle.carrying.proofs.Laws.{length-carried}
 use Rattle.diagrams.specs.Lock.{slipsOf}
 use Rattle.diagrams.specs.declared.State.{State}
 use Rattle.receiving.specs.Machine.{Feed, Run, Tested, run, linkOf, testedOf, validOf, headerOf, payloadOf}
-use Rattle.receiving.specs.Receive.{letsEnd, slipsIn}
+use Rattle.receiving.specs.Receive.{letsEnd, countsOf}
+use Rattle.receiving.specs.Counted.{noCounts, plus, counted, Within}
 use Rattle.receiving.specs.Ranges.{InRange}
-use Rattle.receiving.specs.Loop.{testedIn, heldIn, feedIn, settle, Outcome, outcomeOf, outcome, Under, Turns, Ends, written, heldState, heldBytes}
+use Rattle.receiving.specs.Loop.{testedIn, heldIn, feedIn, settle, bytesOf, Outcome, outcomeOf, outcome, Under, Turns, Ends, written, heldState, heldBytes}
 use Rattle.receiving.specs.declared.Link.{Link}
 use Rattle.receiving.specs.declared.Held.{Held}
+use Rattle.receiving.specs.declared.Counts.{Counts}
 use Rattle.receiving.specs.declared.Receiver.{Receiver}
 use Rattle.receiving.specs.declared.Progress.{Progress}
 use Rattle.receiving.proofs.Runs.{after, run-fill, run-skip, run-wait}
 use Rattle.receiving.proofs.Ranges.{range-next}
+use Rattle.receiving.proofs.Counted.{count-more, count-end, count-first, within-none, within-next, within-wide}
 use Rattle.receiving.proofs.Settle.{put-take, put-drop, put-length, settle-bytes, settle-state, settle-held, settle-last}
 
 -- ---- the run from here, by what is taken
@@ -84,8 +86,7 @@ waited p t =
           };
       pos = t .next;
       at = p .at;
-      tested = p .tested;
-      slips = p .slips;
+      counts = p .counts;
     }
 
 module _ (line room : List ℕ) (p : Progress) (u : Under line room p) (here : p .pos < 8 * length line) (t : Taken)
@@ -97,7 +98,7 @@ module _ (line room : List ℕ) (p : Progress) (u : Under line room p) (here : p
       let w = k .waits idle in
       let r = p .receiver in
       let shorter : r .skip ≡ false → length (carriedBits (r .carried)) < 65 = λ z. rw length-carried (w .short z) in
-      ap (outcomeOf (take (p .at) room) (r .state) (heldIn r) (p .tested) (p .slips))
+      ap (outcomeOf (take (p .at) room) (r .state) (heldIn r) (p .counts))
       (ap (λ (n : ℕ). run (feedOf (carriedBits (t .carried)) false (r .link)) (drop n (lineBits line))) (w .one)
       ∙ sym
       (wait-run (lineBits line) (p .pos) (r .skip) (carriedBits (r .carried)) (carriedBits (t .carried)) (r .link) (omega (arith, length-lineBits line))
@@ -114,8 +115,7 @@ module _ (line room : List ℕ) (p : Progress) (u : Under line room p) (here : p
               pos = omega (arith, k .within, length-lineBits line);
               at = u .at;
               fits = subst (λ (o : Outcome). length (o .bytes) ≤ length room) (sym (waited-same idle)) (u .fits);
-              tested = omega (arith, u .tested, k .past);
-              slips = u .slips;
+              counts = within-wide (p .counts) (p .pos) (t .next) (u .counts) (omega (arith, k .past));
             };
         same = waited-same idle;
         past = k .past;
@@ -127,21 +127,20 @@ module _ (line room : List ℕ) (p : Progress) (u : Under line room p) (here : p
 -- ---- a turn that tests a block
 
 -- the receiver after the block
-abbrev pub moved : Progress → Taken → Link → Held → State → (at slips : ℕ) → Progress
-moved p t link h s at n =
+abbrev pub moved : Progress → Taken → Link → Held → State → ℕ → Counts → Progress
+moved p t link h s at c =
     record {
       receiver = record { skip = h .slipped; carried = t .carried; link = link; state = s; have = true; held = h };
       pos = t .next;
       at = at;
-      tested = p .tested + 1;
-      slips = p .slips + n;
+      counts = c;
     }
 
 -- outcomes with equal parts
-outcome-same : (b b′ : List ℕ) (s s′ : State) (h h′ : List Tested) (t t′ n n′ : ℕ) (e : Feed) → b ≡ b′ → s ≡ s′ → h ≡ h′ → t ≡ t′ → n ≡ n′
-    → _≡_ {A = Outcome} (record { bytes = b; state = s; held = h; tested = t; slips = n; end = e })
-    (record { bytes = b′; state = s′; held = h′; tested = t′; slips = n′; end = e })
-outcome-same b b′ s s′ h h′ t t′ n n′ e p q r u v = rw (p, q, r, u, v)
+outcome-same : (b b′ : List ℕ) (s s′ : State) (h h′ : List Tested) (c c′ : Counts) (e : Feed) → b ≡ b′ → s ≡ s′ → h ≡ h′ → c ≡ c′
+    → _≡_ {A = Outcome} (record { bytes = b; state = s; held = h; counts = c; end = e })
+    (record { bytes = b′; state = s′; held = h′; counts = c′; end = e })
+outcome-same b b′ s s′ h h′ c c′ e p q r u = rw (p, q, r, u)
 
 module _ (line room : List ℕ) (p : Progress) (u : Under line room p) (t : Taken)
     (k : Takes (lineBits line) (p .pos) (p .receiver .skip) (p .receiver .carried) t) (full : t .full ≡ true) (link : Link) (h : Held)
@@ -176,48 +175,47 @@ module _ (line room : List ℕ) (p : Progress) (u : Under line room p) (t : Take
   after-held = heldState (p .receiver .have) (p .receiver .state) (p .receiver .held) (letsEnd (testedIn h))
 
   -- what is still to be written starts with them
-  bytes-are : outcome line room p .bytes ≡ take (p .at) room ++ (bytes ++ flatten (settle after-held (testedIn h ∷ left .tested) .vectors))
+  bytes-are : outcome line room p .bytes ≡ take (p .at) room ++ (bytes ++ bytesOf (settle after-held (testedIn h ∷ left .tested) .judged))
   unfolding outcome heldIn
   bytes-are =
-      ap (λ (r : Run). take (p .at) room ++ flatten (settle (p .receiver .state) (heldIn (p .receiver) ++ r .tested) .vectors)) block-run
+      ap (λ (r : Run). take (p .at) room ++ bytesOf (settle (p .receiver .state) (heldIn (p .receiver) ++ r .tested) .judged)) block-run
       ∙ ap (λ (l : List ℕ). take (p .at) room ++ l)
       (settle-bytes (p .receiver .state) (p .receiver .held) (testedIn h) (left .tested) (p .receiver .have))
 
   -- the vector of the block held fits the room
   pub held-fits : p .at + length bytes ≤ length room
   held-fits =
-      let later = flatten (settle after-held (testedIn h ∷ left .tested) .vectors) in
+      let later = bytesOf (settle after-held (testedIn h ∷ left .tested) .judged) in
       omega (arith, ap length bytes-are, length-append (take (p .at) room) (bytes ++ later), length-append bytes later, length-take-le (p .at) room (u .at), u .fits)
 
-  module _ (s : State) (at n : ℕ) (room′ : List ℕ) (es : s ≡ after-held) (ea : at ≡ p .at + length bytes)
-      (er : room′ ≡ take (p .at) room ++ (bytes ++ drop (p .at + length bytes) room)) (en : n ≡ cond (h .slipped) 1 0) (few : n ≤ 1) where
+  module _ (s : State) (at : ℕ) (c : Counts) (room′ : List ℕ) (es : s ≡ after-held) (ea : at ≡ p .at + length bytes)
+      (er : room′ ≡ take (p .at) room ++ (bytes ++ drop (p .at + length bytes) room)) (ec : c ≡ counted (p .counts) (testedIn h)) where
     -- what is written now
     taken-is : take at room′ ≡ take (p .at) room ++ bytes
     taken-is = ap₂ take ea er ∙ put-take room bytes (p .at) held-fits
 
     -- nothing changes in what comes of it
-    moved-same : outcome line room′ (moved p t link h s at n) ≡ outcome line room p
-    unfolding outcome heldIn feedIn feedOf left slipsIn testedIn
+    moved-same : outcome line room′ (moved p t link h s at c) ≡ outcome line room p
+    unfolding outcome heldIn feedIn feedOf left
     moved-same =
         let r = p .receiver in
         let ts = left .tested in
-        let later = flatten (settle after-held (testedIn h ∷ ts) .vectors) in
-        outcome-same _ _ _ _ _ _ _ _ _ _ (left .end)
-        (ap₂ (λ (x : List ℕ) (z : State). x ++ flatten (settle z (testedIn h ∷ ts) .vectors)) taken-is es
+        let later = bytesOf (settle after-held (testedIn h ∷ ts) .judged) in
+        outcome-same _ _ _ _ _ _ _ _ (left .end)
+        (ap₂ (λ (x : List ℕ) (z : State). x ++ bytesOf (settle z (testedIn h ∷ ts) .judged)) taken-is es
         ∙ append-assoc (take (p .at) room) bytes later
         ∙ ap (λ (l : List ℕ). take (p .at) room ++ l) (sym (settle-bytes (r .state) (r .held) (testedIn h) ts (r .have))))
         (ap (λ (z : State). settle z (testedIn h ∷ ts) .state) es ∙ sym (settle-state (r .state) (r .held) (testedIn h) ts (r .have)))
         (ap (λ (z : State). settle z (testedIn h ∷ ts) .held) es ∙ sym (settle-held (r .state) (r .held) (testedIn h) ts (r .have)))
-        (omega arith)
-        (ap (λ (m : ℕ). p .slips + m + slipsIn ts) en ∙ add-assoc (p .slips) (cond (h .slipped) 1 0) (slipsIn ts))
-        ∙ sym (ap (outcomeOf (take (p .at) room) (r .state) (heldIn r) (p .tested) (p .slips)) block-run)
+        (ap (λ (z : Counts). plus z (countsOf ts)) ec ∙ count-more (p .counts) (testedIn h) ts)
+        ∙ sym (ap (outcomeOf (take (p .at) room) (r .state) (heldIn r) (p .counts)) block-run)
 
     -- the room is as long as it was
     len-is : length room′ ≡ length room
     len-is = ap length er ∙ put-length room bytes (p .at) held-fits
 
     -- so that is a turn
-    pub turn-block : Turns line room room′ p (moved p t link h s at n)
+    pub turn-block : Turns line room room′ p (moved p t link h s at c)
     turn-block =
         record {
           under =
@@ -227,8 +225,7 @@ module _ (line room : List ℕ) (p : Progress) (u : Under line room p) (t : Take
                 pos = omega (arith, k .within, length-lineBits line);
                 at = omega (arith, ea, held-fits, len-is);
                 fits = omega (arith, len-is, ap (λ (o : Outcome). length (o .bytes)) moved-same, u .fits);
-                tested = omega (arith, u .tested, k .past);
-                slips = omega (arith, u .slips, few);
+                counts = subst (Within (t .next)) (sym ec) (within-next (p .counts) (testedIn h) (p .pos) (t .next) (u .counts) (k .past));
               };
           same = moved-same;
           past = k .past;
@@ -248,7 +245,7 @@ pub record Looping (line room₀ room : List ℕ) (p₀ p : Progress) : Type 0 w
 
 -- a receiver at the first bit of the line
 abbrev pub begun : Receiver → Progress
-begun r = record { receiver = r; pos = 0; at = 0; tested = 0; slips = 0 }
+begun r = record { receiver = r; pos = 0; at = 0; counts = noCounts }
 
 -- it holds at the first turn
 pub loop-first : (line room : List ℕ) (r : Receiver) → InRange (r .link) → Sound (r .carried) → length (written r line) ≤ length room
@@ -257,7 +254,7 @@ unfolding outcome
 loop-first line room r g s f =
     record {
       under =
-          record { range = g; sound = s; pos = omega arith; at = omega arith; fits = f; tested = omega arith; slips = omega arith };
+          record { range = g; sound = s; pos = omega arith; at = omega arith; fits = f; counts = within-none 0 };
       same = refl;
       rest = refl;
       len = refl;
@@ -280,10 +277,10 @@ loop-next line room₀ room room′ p₀ p p′ i t =
 -- no bit is left
 ended : (line room : List ℕ) (p : Progress) → 8 * length line ≤ p .pos
     → outcome line room p
-    ≡ record { bytes = take (p .at) room ++ []; state = p .receiver .state; held = heldIn (p .receiver); tested = p .tested + 0; slips = p .slips + 0; end = feedIn (p .receiver) }
-unfolding outcome heldIn run slipsIn flatten
+    ≡ record { bytes = take (p .at) room ++ []; state = p .receiver .state; held = heldIn (p .receiver); counts = p .counts; end = feedIn (p .receiver) }
+unfolding outcome heldIn run flatten
 ended line room p over =
-    rw (drop-of-length-le (lineBits line) {i = p .pos} (omega (arith, length-lineBits line)), settle-last (p .receiver .have) (p .receiver .state) (p .receiver .held))
+    rw (drop-of-length-le (lineBits line) {i = p .pos} (omega (arith, length-lineBits line)), settle-last (p .receiver .have) (p .receiver .state) (p .receiver .held), count-end (p .counts))
 
 -- so at the end everything is settled
 pub loop-ends : (line room₀ room : List ℕ) (r : Receiver) (p : Progress) → Looping line room₀ room (begun r) p → 8 * length line ≤ p .pos
@@ -299,6 +296,5 @@ loop-ends line room₀ room r p i over =
       at = omega (arith, i .under .at, i .len);
       rest = i .rest;
       len = i .len;
-      tested = omega (arith, ap (λ (o : Outcome). o .tested) e);
-      slips = omega (arith, ap (λ (o : Outcome). o .slips) e);
+      counts = ap (λ (o : Outcome). o .counts) e ∙ count-first (countsOf (run (feedIn r) (lineBits line) .tested));
     }

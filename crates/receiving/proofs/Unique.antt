@@ -8,7 +8,7 @@ use Rattle.refusals.proofs.Laws.{number-injective}
 use Rattle.refusals.specs.Number.{numberOf}
 use Rattle.refusals.specs.declared.Refusal.{Refusal}
 use Rattle.receiving.specs.Answer.{received, refused, answerOf, receiveAnswer, receiveRoom}
-use Rattle.receiving.specs.declared.Receiving.{Receiving}
+use Rattle.receiving.specs.declared.Summary.{Summary}
 use Rattle.receiving.specs.declared.Received.{Received}
 use Rattle.receiving.specs.declared.Received.the-variants.{Done, Refused}
 
@@ -20,19 +20,13 @@ same-number a b p q e = cc
 same-place : (a b p q : ℕ) → refused a p ≡ refused b q → p ≡ q
 same-place a b p q e = cc
 
--- equal values are those of equal summaries
-same-values : (a b : Receiving) → received (a .tested) (a .slips) (a .locked) (a .high) (a .vectors) ≡ received (b .tested) (b .slips) (b .locked) (b .high) (b .vectors) → a ≡ b
-same-values a b e =
-    let t : a .tested ≡ b .tested = cc in
-    let s : a .slips ≡ b .slips = cc in
-    let l : a .locked ≡ b .locked = cc in
-    let h : a .high ≡ b .high = cc in
-    let v : a .vectors ≡ b .vectors = cc in
-    rw (t, s, l, h, v)
+-- and equal answers equal summaries
+same-summary : (a b : Summary) → received a ≡ received b → a ≡ b
+same-summary a b e = cc
 
 -- the document's numbers and values tell the answer
 answer-injective : (a b : Received) → answerOf a ≡ answerOf b → a ≡ b
-answer-injective (Done r) (Done s) e = ap Done (same-values r s e)
+answer-injective (Done r) (Done s) e = ap Done (same-summary r s e)
 answer-injective (Done r) (Refused n p) e = absurd (let z : _≡_ {A = ℕ} 0 1 = cc in omega arith)
 answer-injective (Refused n p) (Done r) e = absurd (let z : _≡_ {A = ℕ} 0 1 = cc in omega arith)
 answer-injective (Refused n p) (Refused m q) e =

@@ -6,7 +6,7 @@ use lib.ListN.{length, drop}
 use borrow.Author.Tests.{lt-ltb, le-ltb}
 use Rattle.refusals.specs.First.{first}
 use Rattle.receiving.specs.Receive.{receivedVectors}
-use Rattle.receiving.specs.Answer.{ReceiveAnswer, refused, receiveChecks, receivedFor, receiveAnswer, receiveRoom}
+use Rattle.receiving.specs.Answer.{ReceiveAnswer, refused, received, receiveChecks, summaryOf, receiveAnswer, receiveRoom}
 
 -- an answer and a room as the definition has them
 abbrev Answers : ReceiveAnswer → (line room left : List ℕ) → Type 0
@@ -27,7 +27,7 @@ module _ (line room : List ℕ) where
 
     -- any other is received
     pub passes : 10 * (8 * length line / 66) ≤ length room
-        → Answers (receivedFor line) line room (receivedVectors line ++ drop (length (receivedVectors line)) room)
+        → Answers (received (summaryOf line)) line room (receivedVectors line ++ drop (length (receivedVectors line)) room)
     unfolding receiveAnswer receiveRoom receiveChecks first
     passes h =
         (rw (le-ltb 825000 (length line) short, le-ltb (length room) (10 * (8 * length line / 66)) h), rw (le-ltb 825000 (length line) short, le-ltb (length room) (10 * (8 * length line / 66)) h))

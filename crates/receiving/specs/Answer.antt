@@ -1,12 +1,12 @@
 -- What receiving answers, and what it leaves in the lent room: document 01, 'Refusal numbers' and the last lines of 'Diagrams'.
 use Prim.Native.Nat.{ℕ, _*_, _/_}
-use mathlib.Core.Bool.{Bool}
 use mathlib.Core.List.{List, [], _∷_, _++_}
 use lib.ListN.{length, drop}
 use lib.Dec.{ltb}
 use Rattle.refusals.specs.Number.{numberOf}
 use Rattle.refusals.specs.First.{Check, check, first, byVerdict}
-use Rattle.receiving.specs.Receive.{runOf, slipsIn, vectorsOf, receivedVectors}
+use Rattle.receiving.specs.Receive.{runOf, countsOf, vectorsOf, receivedVectors}
+use Rattle.receiving.specs.declared.Summary.{Summary}
 use Rattle.receiving.specs.declared.Received.{Received}
 use Rattle.receiving.specs.declared.Received.the-variants.{Done, Refused}
 
@@ -14,23 +14,23 @@ use Rattle.receiving.specs.declared.Received.the-variants.{Done, Refused
 unfoldable pub receiveChecks : (line room : ℕ) → List Check
 receiveChecks line room = check 1 (ltb 825000 line) ∷ check 4 (ltb room (10 * (8 * line / 66))) ∷ []
 
--- "tested, slips, locked, high and the number of vectors"; or a refusal's number and place
+-- "Receiving returns tested, slips, locked, high and the number of vectors": the summary of a line that is not refused
+unfoldable pub summaryOf : List ℕ → Summary
+summaryOf line =
+    record {
+      counts = countsOf (runOf line .tested);
+      locked = runOf line .end .link .lock .locked;
+      high = runOf line .end .link .rate .high;
+      vectors = length (vectorsOf line);
+    }
+
+-- a summary; or a refusal's number and place
 pub data ReceiveAnswer : Type 0 where
-  received : (tested slips : ℕ) (locked high : Bool) (vectors : ℕ) → ReceiveAnswer
+  received : Summary → ReceiveAnswer
   refused : (number place : ℕ) → ReceiveAnswer
 
--- the answer for a line that is not refused
-unfoldable pub receivedFor : List ℕ → ReceiveAnswer
-receivedFor line =
-    received
-    (length (runOf line .tested))
-    (slipsIn (runOf line .tested))
-    (runOf line .end .link .lock .locked)
-    (runOf line .end .link .rate .high)
-    (length (vectorsOf line))
-
 unfoldable pub receiveAnswer : List ℕ → (room : ℕ) → ReceiveAnswer
-receiveAnswer line room = byVerdict (first (receiveChecks (length line) room)) (receivedFor line) refused
+receiveAnswer line room = byVerdict (first (receiveChecks (length line) room)) (received (summaryOf line)) refused
 
 -- "Success writes exactly the stated bytes from the start of the lent room; the rest is unchanged." A refusal changes nothing.
 unfoldable pub receiveRoom : (line room : List ℕ) → List ℕ
@@ -41,5 +41,5 @@ receiveRoom line room =
 
 -- the document's number and values for each case of the answer
 abbrev pub answerOf : Received → ReceiveAnswer
-answerOf (Done r) = received (r .tested) (r .slips) (r .locked) (r .high) (r .vectors)
+answerOf (Done summary) = received summary
 answerOf (Refused why place) = refused (numberOf why) place

@@ -2,4 +2,5 @@ pub mod Machine
 pub mod Receive
 pub mod Answer
 pub mod Ranges
+pub mod Counted
 pub mod Loop

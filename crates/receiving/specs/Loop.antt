@@ -1,8 +1,8 @@
 -- A reviewer can skip this file. What the parts of the code do, in the words of Machine and Receive.
 use mathlib.Core.Path.{_≡_}
 use mathlib.Core.Bool.{Bool, cond}
-use mathlib.Core.List.{List, [], _∷_, _++_, flatten}
-use Prim.Native.Nat.{ℕ, _+_, _*_, _≤_, _<_}
+use mathlib.Core.List.{List, [], _∷_, _++_, map, flatten}
+use Prim.Native.Nat.{ℕ, _*_, _≤_, _<_}
 use lib.ListN.{length, take, drop}
 use Rattle.bits.specs.Bits.{lineBits}
 use Rattle.carrying.specs.Carrying.{carriedBits, Sound}
@@ -10,10 +10,12 @@ use Rattle.decoding.specs.Vector.{vectorBytes}
 use Rattle.diagrams.specs.declared.State.{State}
 use Rattle.diagrams.specs.declared.State.the-variants.{Init}
 use Rattle.receiving.specs.Machine.{Feed, Run, Tested, run, at, linkFresh}
-use Rattle.receiving.specs.Receive.{letsEnd, stateOf, answerIn, slipsIn}
+use Rattle.receiving.specs.Receive.{letsEnd, stateOf, answerIn, Judged, answer, countsOf}
+use Rattle.receiving.specs.Counted.{plus, Within}
 use Rattle.receiving.specs.Ranges.{InRange}
 use Rattle.receiving.specs.declared.Held.{Held}
 use Rattle.receiving.specs.declared.Receiver.{Receiver}
+use Rattle.receiving.specs.declared.Counts.{Counts}
 use Rattle.receiving.specs.declared.Progress.{Progress}
 
 -- ---- what the code holds, as the definitions have it
@@ -38,22 +40,26 @@ pub record Fresh (r : Receiver) : Type 0 where
   pub state : r .state ≡ Init
   pub held : heldIn r ≡ []
 
--- ---- the vectors of all blocks but the last, which is held until the next is tested
+-- ---- all blocks but the last in their states; the last is held until the next is tested
 
--- the vectors, the diagram's state, and the block held, if there is one
+-- these blocks, the diagram's state, and the block held, if there is one
 pub record Settled : Type 0 where
-  pub vectors : List (List ℕ)
+  pub judged : List Judged
   pub state : State
   pub held : List Tested
 
 -- from a state, over a list of blocks
 unfoldable pub settle : State → List Tested → Settled
-settle s [] = record { vectors = []; state = s; held = [] }
-settle s (t ∷ []) = record { vectors = []; state = s; held = t ∷ [] }
+settle s [] = record { judged = []; state = s; held = [] }
+settle s (t ∷ []) = record { judged = []; state = s; held = t ∷ [] }
 settle s (t ∷ u ∷ ts) =
     let s′ = stateOf s t (letsEnd u) in
     let rest = settle s′ (u ∷ ts) in
-    record { vectors = answerIn s′ (t .vector) ∷ rest .vectors; state = rest .state; held = rest .held }
+    record { judged = record { state = s′; block = t } ∷ rest .judged; state = rest .state; held = rest .held }
+
+-- the bytes of the vectors of blocks in their states
+abbrev pub bytesOf : List Judged → List ℕ
+bytesOf js = flatten (map answer js)
 
 -- ---- what a receiver comes to at the end of the line, from where it is
 
@@ -62,26 +68,24 @@ pub record Outcome : Type 0 where
   pub bytes : List ℕ
   pub state : State
   pub held : List Tested
-  pub tested : ℕ
-  pub slips : ℕ
+  pub counts : Counts
   pub end : Feed
 
 -- from what is still to be run over
-abbrev pub outcomeOf : List ℕ → State → List Tested → (tested slips : ℕ) → Run → Outcome
-outcomeOf written s held tested slips r =
+abbrev pub outcomeOf : List ℕ → State → List Tested → Counts → Run → Outcome
+outcomeOf written s held c r =
     record {
-      bytes = written ++ flatten (settle s (held ++ r .tested) .vectors);
+      bytes = written ++ bytesOf (settle s (held ++ r .tested) .judged);
       state = settle s (held ++ r .tested) .state;
       held = settle s (held ++ r .tested) .held;
-      tested = tested + length (r .tested);
-      slips = slips + slipsIn (r .tested);
+      counts = plus c (countsOf (r .tested));
       end = r .end;
     }
 
 -- from the progress of a receiver
 unfoldable pub outcome : (line room : List ℕ) → Progress → Outcome
 outcome line room p =
-    outcomeOf (take (p .at) room) (p .receiver .state) (heldIn (p .receiver)) (p .tested) (p .slips)
+    outcomeOf (take (p .at) room) (p .receiver .state) (heldIn (p .receiver)) (p .counts)
     (run (feedIn (p .receiver)) (drop (p .pos) (lineBits line)))
 
 -- on the way: all numbers are in range, and what is still to be written fits the room
@@ -91,8 +95,7 @@ pub record Under (line room : List ℕ) (p : Progress) : Type 0 where
   pub pos : p .pos ≤ 8 * length line
   pub at : p .at ≤ length room
   pub fits : length (outcome line room p .bytes) ≤ length room
-  pub tested : p .tested ≤ p .pos
-  pub slips : p .slips ≤ p .tested
+  pub counts : Within (p .pos) (p .counts)
 
 -- one turn leaves what comes of it, and what stands in the room behind the bytes written
 pub record Turns (line room room′ : List ℕ) (p p′ : Progress) : Type 0 where
@@ -108,16 +111,15 @@ pub record Ends (line room room′ : List ℕ) (r : Receiver) (p : Progress) : T
   pub feed : feedIn (p .receiver) ≡ run (feedIn r) (lineBits line) .end
   pub state : p .receiver .state ≡ settle (r .state) (heldIn r ++ run (feedIn r) (lineBits line) .tested) .state
   pub held : heldIn (p .receiver) ≡ settle (r .state) (heldIn r ++ run (feedIn r) (lineBits line) .tested) .held
-  pub bytes : take (p .at) room′ ≡ flatten (settle (r .state) (heldIn r ++ run (feedIn r) (lineBits line) .tested) .vectors)
+  pub bytes : take (p .at) room′ ≡ bytesOf (settle (r .state) (heldIn r ++ run (feedIn r) (lineBits line) .tested) .judged)
   pub at : p .at ≤ length room
   pub rest : drop (p .at) room′ ≡ drop (p .at) room
   pub len : length room′ ≡ length room
-  pub tested : p .tested ≡ length (run (feedIn r) (lineBits line) .tested)
-  pub slips : p .slips ≡ slipsIn (run (feedIn r) (lineBits line) .tested)
+  pub counts : p .counts ≡ countsOf (run (feedIn r) (lineBits line) .tested)
 
 -- what a receiver writes of a line, the block that it then holds aside
 abbrev pub written : Receiver → List ℕ → List ℕ
-written r line = flatten (settle (r .state) (heldIn r ++ run (feedIn r) (lineBits line) .tested) .vectors)
+written r line = bytesOf (settle (r .state) (heldIn r ++ run (feedIn r) (lineBits line) .tested) .judged)
 
 -- ---- the answer of the block held, if there is one
 

@@ -1,13 +1,15 @@
 -- Document 01, 'Diagrams', Receive: the diagram over the tested blocks, with a look at the next.
 use Prim.Native.Nat.{ℕ, _+_}
 use mathlib.Core.Bool.{Bool, false, cond, _&&_}
-use mathlib.Core.List.{List, [], _∷_, flatten}
+use mathlib.Core.List.{List, [], _∷_, map, flatten}
+use lib.ListN.{length}
 use Rattle.bits.specs.Bits.{lineBits}
 use Rattle.block.specs.Block.{errorVector, localFaultVector}
 use Rattle.diagrams.specs.Diagram.{diagramOf, follows}
 use Rattle.diagrams.specs.declared.State.{State}
 use Rattle.diagrams.specs.declared.State.the-variants.{Init, Control, Data, Terminate, Error}
 use Rattle.receiving.specs.Machine.{Tested, Run, run, at, linkFresh}
+use Rattle.receiving.specs.declared.Counts.{Counts}
 
 -- Whether the next block is S or C: it "counts as E if testing it leaves the receiver not locked or high, and at the end of the input".
 unfoldable pub letsEnd : Tested → Bool
@@ -29,17 +31,35 @@ answerIn Control decoded = decoded
 answerIn Data decoded = decoded
 answerIn Terminate decoded = decoded
 
--- the vectors of the tested blocks, from a state of the diagram: "one for each tested block"
-unfoldable pub answers : State → List Tested → List (List ℕ)
-answers s [] = []
-answers s (t ∷ ts) =
-    let s′ = stateOf s t (ends ts) in
-    answerIn s′ (t .vector) ∷ answers s′ ts
+-- a tested block, and the state of the diagram that it leads to
+pub record Judged : Type 0 where
+  pub state : State
+  pub block : Tested
 
--- how many of the tested blocks slipped
-unfoldable pub slipsIn : List Tested → ℕ
-slipsIn [] = 0
-slipsIn (t ∷ ts) = cond (t .slipped) 1 0 + slipsIn ts
+-- the tested blocks in their states, from a state of the diagram
+unfoldable pub judge : State → List Tested → List Judged
+judge s [] = []
+judge s (t ∷ ts) =
+    let s′ = stateOf s t (ends ts) in
+    record { state = s′; block = t } ∷ judge s′ ts
+
+-- the vector of a block, and those of all: "one for each tested block"
+abbrev pub answer : Judged → List ℕ
+answer j = answerIn (j .state) (j .block .vector)
+
+unfoldable pub answers : State → List Tested → List (List ℕ)
+answers s ts = map answer (judge s ts)
+
+-- ---- the counts
+
+-- how many elements of a list pass a test
+unfoldable pub howMany : {A : Type 0} → (A → Bool) → List A → ℕ
+howMany test [] = 0
+howMany test (x ∷ xs) = cond (test x) 1 0 + howMany test xs
+
+-- of the tested blocks: how many they are, and how many slipped
+unfoldable pub countsOf : List Tested → Counts
+countsOf ts = record { tested = length ts; slips = howMany (λ t. t .slipped) ts }
 
 -- ---- a fresh receiver over a whole line
 

@@ -20,6 +20,8 @@ ghost use Rattle.receiving.specs.Loop.{Under, Turns, Ends, Fresh, writte
 
 // testing.rt: one tested block
 mod testing;
+// counting.rt: what a tested block is counted for
+mod counting;
 // answering.rt: the vector of a block, once the next is known
 mod answering;
 
@@ -30,17 +32,22 @@ pub struct Link {
     pub history: u64,
 }
 
-// What receiving returns.
-pub struct Receiving {
+// What tested blocks are counted for: how many there are, and how many of them slipped.
+pub struct Counts {
     pub tested: u64,
     pub slips: u64,
+}
+
+// What receiving returns.
+pub struct Summary {
+    pub counts: Counts,
     pub locked: bool,
     pub high: bool,
     pub vectors: u64,
 }
 
 pub enum Received {
-    Done(Receiving),
+    Done(Summary),
     Refused(Refusal, usize),
 }
 
@@ -68,8 +75,7 @@ pub struct Progress {
     pub receiver: Receiver,
     pub pos: usize,
     pub at: usize,
-    pub tested: u64,
-    pub slips: u64,
+    pub counts: Counts,
 }
 
 // One turn: a whole block of the line, or one bit. A block that is full is tested, and the one held before it is answered.
@@ -80,6 +86,7 @@ fn turn(t: &[u16; 3170], y: &[u8; 256], line: &[u8], room: &mut [u8], p: Progres
     let r = p.receiver;
     let pos = p.pos;
     let at = p.at;
+    let counts = p.counts;
     let taken = take_at(line, pos, r.skip, r.carried);
     let carried = taken.carried;
     let link = r.link;
@@ -93,6 +100,7 @@ fn turn(t: &[u16; 3170], y: &[u8; 256], line: &[u8], room: &mut [u8], p: Progres
         let settled = answering::settle_held(room, at, r.have, state, held, ends);
         let state = settled.state;
         let slipped = next.slipped;
+        let counts = counting::count_block(counts, next);
         return Progress {
             receiver: Receiver {
                 skip: slipped,
@@ -104,8 +112,7 @@ fn turn(t: &[u16; 3170], y: &[u8; 256], line: &[u8], room: &mut [u8], p: Progres
             },
             pos: taken.next,
             at: settled.at,
-            tested: p.tested + 1,
-            slips: p.slips + testing::slip_count(slipped),
+            counts: counts,
         };
     }
     Progress {
@@ -119,8 +126,7 @@ fn turn(t: &[u16; 3170], y: &[u8; 256], line: &[u8], room: &mut [u8], p: Progres
         },
         pos: taken.next,
         at: at,
-        tested: p.tested,
-        slips: p.slips,
+        counts: counts,
     }
 }
 
@@ -141,8 +147,10 @@ fn receive_bits(
         receiver: start,
         pos: 0,
         at: 0,
-        tested: 0,
-        slips: 0,
+        counts: Counts {
+            tested: 0,
+            slips: 0,
+        },
     };
     while p.pos < bits {
         p = turn(t, y, line, room, p);
@@ -206,12 +214,12 @@ fn receive_with(t: &[u16; 3170], y: &[u8; 256], line: &[u8], room: &mut [u8]) ->
     let state = r.state;
     let held = r.held;
     answering::settle_held(room, at, r.have, state, held, false);
-    Received::Done(Receiving {
-        tested: p.tested,
-        slips: p.slips,
+    let counts = p.counts;
+    Received::Done(Summary {
+        counts: counts,
         locked: lock.locked,
         high: rate.high,
-        vectors: p.tested,
+        vectors: counts.tested,
     })
 }
 

@@ -19,15 +19,16 @@ fn print_flag(b: bool) {
 
 fn print_answer(answer: Received) {
     match answer {
-        Received::Done(r) => {
+        Received::Done(s) => {
+            let c = s.counts;
             print(b"tested ");
-            print_number(r.tested);
+            print_number(c.tested);
             print(b", slips ");
-            print_number(r.slips);
+            print_number(c.slips);
             print(b", locked ");
-            print_flag(r.locked);
+            print_flag(s.locked);
             print(b", high ");
-            print_flag(r.high);
+            print_flag(s.high);
             print(b"\n");
         }
         Received::Refused(why, place) => {

@@ -21,8 +21,8 @@ returns c =
 receive-requires : tie.Need-receive-requires
 receive-requires c κs = search needs
 
-enum-known-r : tie.Need-enum-known-r
-enum-known-r c = search needs
+enum-known-s : tie.Need-enum-known-s
+enum-known-s c = search needs
 
 flag-requires : tie.Need-flag-requires
 flag-requires c κs = search needs
@@ -52,11 +52,11 @@ same-length-2 c = search needs
 
 returns-2 : tie.Need-returns-2
 returns-2 c =
-    let a = c .before .before .before .before .before .before .before .before .before .before .before .before .before .before .before .before .before .args in
-    let r = c .before .before .before .before .before .before .before .r .given .0 .0 in
+    let a = c .before .before .before .before .before .before .before .before .before .before .before .before .before .before .before .before .before .before .args in
+    let s = c .before .before .before .before .before .before .before .before .s .given .0 .0 in
     let t =
-    answered (now (a .line)) (now (a .vectors)) (now (a .summary)) _ _ _ (c .before .before .before .before .before .before .before .before .before .before .before .before .before .if1 .left) (sym (ap answerOf (c .before .before .before .before .before .before .before .r .given .1)) ∙ c .before .before .before .before .before .before .before .before .before .before .before .receive .ensures .0) (c .before .before .before .before .before .before .before .before .before .before .before .receive .ensures .1)
-    (flagged (r .tested) (r .slips) (c .before .before .before .before .flag .result) (c .before .before .before .flag2 .result) (r .vectors) (r .locked) (r .high) (drop 40 (now (a .summary))) _ (c .before .before .before .before .flag .ensures) (c .before .before .before .flag2 .ensures) (c .before .before .put-five .ensures)) in
+    answered (now (a .line)) (now (a .vectors)) (now (a .summary)) _ _ _ (c .before .before .before .before .before .before .before .before .before .before .before .before .before .before .if1 .left) (sym (ap answerOf (c .before .before .before .before .before .before .before .before .s .given .1)) ∙ c .before .before .before .before .before .before .before .before .before .before .before .before .receive .ensures .0) (c .before .before .before .before .before .before .before .before .before .before .before .before .receive .ensures .1)
+    (flagged s (c .before .before .before .before .flag .result) (c .before .before .before .flag2 .result) (drop 40 (now (a .summary))) _ (c .before .before .before .before .flag .ensures) (c .before .before .before .flag2 .ensures) (c .before .before .put-five .ensures)) in
     (t .0, (t .1, t .2))
 
 same-length-3 : tie.Need-same-length-3
@@ -78,7 +78,7 @@ holzmotte-receive-spec =
     receive-short-requires
     returns
     receive-requires
-    enum-known-r
+    enum-known-s
     flag-requires
     flag-requires-2
     put-five-requires

@@ -3,8 +3,9 @@ use mathlib.Core.Path.{ap, _∙_}
 use borrow.Author.Needs.{needs}
 use denote.Ref.{now}
 use lib.ListN.{length}
+use Rattle.receiving.specs.Answer.{received}
 use Rattle.receiving.proofs.Settle.{put-length}
-use Rattle.receiving.proofs.Closing.{written-fits, last, last-fits, room-is, answer-is}
+use Rattle.receiving.proofs.Closing.{written-fits, last, last-fits, room-is, summary-is}
 use Rattle.receiving.proofs.Verdict.{too-much, no-room, passes}
 use Rattle.receiving.proofs.receive_with.Statement.{statement}
 use Rattle.receiving.proofs.receive_with.Tie as tie
@@ -41,11 +42,11 @@ settle-held-requires c κs =
 
 same-length : tie.Need-same-length
 same-length c =
-    let args = c .before .before .before .before .before .before .before .before .before .before .before .before .before .before .before .before .before .before .args in
-    let if2 = c .before .before .before .before .before .before .before .before .before .before .before .before .before .before .if2 in
-    let fresh = c .before .before .before .before .before .before .before .before .before .before .before .before .fresh in
-    let receive-bits = c .before .before .before .before .before .before .before .before .before .before .before .receive-bits in
-    ap length (c .before .before .settle-held .ensures .2) ∙ put-length (receive-bits .last .1 .1 .1 .0)
+    let args = c .before .before .before .before .before .before .before .before .before .before .before .before .before .before .before .before .before .before .before .args in
+    let if2 = c .before .before .before .before .before .before .before .before .before .before .before .before .before .before .before .if2 in
+    let fresh = c .before .before .before .before .before .before .before .before .before .before .before .before .before .fresh in
+    let receive-bits = c .before .before .before .before .before .before .before .before .before .before .before .before .receive-bits in
+    ap length (c .before .before .before .settle-held .ensures .2) ∙ put-length (receive-bits .last .1 .1 .1 .0)
     (last (now (args .line)) (now (args .room)) (fresh .result) (fresh .ensures) (if2 .left) (receive-bits .last .1 .1 .1 .0) (receive-bits .result) (receive-bits .ensures))
     (receive-bits .result .at)
     (last-fits (now (args .line)) (now (args .room)) (fresh .result) (fresh .ensures) (if2 .left) (receive-bits .last .1 .1 .1 .0) (receive-bits .result) (receive-bits .ensures))
@@ -53,14 +54,14 @@ same-length c =
 
 returns-3 : tie.Need-returns-3
 returns-3 c =
-    let args = c .before .before .before .before .before .before .before .before .before .before .before .before .before .before .before .before .before .before .args in
-    let if1 = c .before .before .before .before .before .before .before .before .before .before .before .before .before .before .before .if1 in
-    let if2 = c .before .before .before .before .before .before .before .before .before .before .before .before .before .before .if2 in
-    let fresh = c .before .before .before .before .before .before .before .before .before .before .before .before .fresh in
-    let receive-bits = c .before .before .before .before .before .before .before .before .before .before .before .receive-bits in
-    let settle-held = c .before .before .settle-held in
+    let args = c .before .before .before .before .before .before .before .before .before .before .before .before .before .before .before .before .before .before .before .args in
+    let if1 = c .before .before .before .before .before .before .before .before .before .before .before .before .before .before .before .before .if1 in
+    let if2 = c .before .before .before .before .before .before .before .before .before .before .before .before .before .before .before .if2 in
+    let fresh = c .before .before .before .before .before .before .before .before .before .before .before .before .before .fresh in
+    let receive-bits = c .before .before .before .before .before .before .before .before .before .before .before .before .receive-bits in
+    let settle-held = c .before .before .before .settle-held in
     let v = passes (now (args .line)) (now (args .room)) (if1 .left) (if2 .left) in
-    (answer-is (now (args .line)) (now (args .room)) (fresh .result) (fresh .ensures) (if2 .left) (receive-bits .last .1 .1 .1 .0) (receive-bits .result) (receive-bits .ensures) ∙ v .0, room-is (now (args .line)) (now (args .room)) (fresh .result) (fresh .ensures) (if2 .left) (receive-bits .last .1 .1 .1 .0) (receive-bits .result) (receive-bits .ensures) (settle-held .last .0) (settle-held .ensures .2) ∙ v .1)
+    (ap received (summary-is (now (args .line)) (now (args .room)) (fresh .result) (fresh .ensures) (if2 .left) (receive-bits .last .1 .1 .1 .0) (receive-bits .result) (receive-bits .ensures)) ∙ v .0, room-is (now (args .line)) (now (args .room)) (fresh .result) (fresh .ensures) (if2 .left) (receive-bits .last .1 .1 .1 .0) (receive-bits .result) (receive-bits .ensures) (settle-held .last .0) (settle-held .ensures .2) ∙ v .1)
 
 pub receive-with-spec : {M : Type 1} → statement M
 receive-with-spec =
