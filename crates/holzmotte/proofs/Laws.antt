@@ -1,11 +1,12 @@
 -- Laws of checks with one more among them, and of a summary's bytes. Assumes nothing.
-use Prim.Native.Nat.{ℕ, zero, suc, _+_, _*_, _≤_, _<_}
+use Prim.Native.Nat.{ℕ, zero, suc, zero-le, _+_, _*_, _≤_, _<_}
 use mathlib.Core.Path.{_≡_, refl, sym, ap, ap₂, _∙_}
 use mathlib.Core.Bool.{false, cond}
 use mathlib.Core.List.{List, [], _∷_, _++_, append-assoc, append-nil}
 use native.Mathlib.Omega.{arith}
-use lib.ListN.{length, take, drop, length-append}
-use lib.Seq.{take-at, drop-at, drop-drop}
+use native.Mathlib.Numerals.{add-one}
+use lib.ListN.{length, getD, take, drop, length-append}
+use lib.Seq.{take-at, drop-at, drop-drop, take-suc, take-all, length-take-le}
 use borrow.Author.Tests.{lt-ltb, le-ltb}
 use Rattle.bits.specs.Bits.{bit, cut}
 use Rattle.bits.proofs.Laws.{length-cut}
@@ -61,12 +62,46 @@ one-more [] w = append-nil (cut 8 (bit w) 8)
 one-more (x ∷ ws) w =
     ap (λ (l : List ℕ). cut 8 (bit x) 8 ++ l) (one-more ws w) ∙ sym (append-assoc (cut 8 (bit x) 8) (summaryBytes ws) (cut 8 (bit w) 8))
 
--- one more word, put after those that are there
-pub put-more : (ws : List ℕ) (w k : ℕ) (before now next : List ℕ) → 8 * length ws ≡ k → now ≡ summaryBytes ws ++ drop k before
-    → next ≡ take k now ++ cut 8 (bit w) 8 ++ drop (k + 8) now → next ≡ summaryBytes (ws ++ w ∷ []) ++ drop (k + 8) before
-put-more ws w k before now next e p q =
-    let n : length (summaryBytes ws) ≡ k = length-summary ws ∙ e in
-    let t : take k now ≡ summaryBytes ws = ap (take k) p ∙ take-at (summaryBytes ws) (drop k before) k n in
-    let d : drop (k + 8) now ≡ drop (k + 8) before =
-    sym (drop-drop 8 k now) ∙ ap (drop 8) (ap (drop k) p ∙ drop-at (summaryBytes ws) (drop k before) k n) ∙ drop-drop 8 k before in
-    q ∙ ap₂ (λ (x y : List ℕ). x ++ cut 8 (bit w) 8 ++ y) t d ∙ ap (λ (x : List ℕ). x ++ drop (k + 8) before) (sym (one-more ws w))
+-- ---- words put one after the other
+
+-- i words are put, and the rest of the summary stands
+pub record Put (before words now : List ℕ) (i : ℕ) : Type 0 where
+  pub inside : i ≤ length words
+  pub bytes : now ≡ summaryBytes (take i words) ++ drop (8 * i) before
+  pub same : length now ≡ length before
+
+module _ (before words : List ℕ) (room : 8 * length words ≤ length before) where
+  pub put-first : Put before words before 0
+  put-first = record { inside = zero-le; bytes = refl; same = refl }
+
+  -- one more word, after those that are there
+  pub put-next : (now next : List ℕ) (i : ℕ) → i < length words → next ≡ take (8 * i) now ++ cut 8 (bit (getD words i 0)) 8 ++ drop (8 * i + 8) now
+      → length next ≡ length now → Put before words now i → Put before words next (i + 1)
+  put-next now next i l e m p = record { inside = omega arith; bytes = bytes; same = m ∙ p .same }
+    where
+      n : length (summaryBytes (take i words)) ≡ 8 * i
+      n = length-summary (take i words) ∙ ap (λ (k : ℕ). 8 * k) (length-take-le i words (p .inside))
+
+      head : take (8 * i) now ≡ summaryBytes (take i words)
+      head = ap (take (8 * i)) (p .bytes) ∙ take-at (summaryBytes (take i words)) (drop (8 * i) before) (8 * i) n
+
+      rest : drop (8 * i + 8) now ≡ drop (8 * (i + 1)) before
+      rest =
+          let k : 8 * i + 8 ≡ 8 * (i + 1) = omega arith in
+          sym (drop-drop 8 (8 * i) now)
+          ∙ ap (drop 8) (ap (drop (8 * i)) (p .bytes) ∙ drop-at (summaryBytes (take i words)) (drop (8 * i) before) (8 * i) n)
+          ∙ drop-drop 8 (8 * i) before
+          ∙ ap (λ (n : ℕ). drop n before) k
+
+      more : summaryBytes (take (i + 1) words) ≡ summaryBytes (take i words) ++ cut 8 (bit (getD words i 0)) 8
+      more = ap (λ (k : ℕ). summaryBytes (take k words)) (add-one i) ∙ ap summaryBytes (take-suc words i 0 l) ∙ one-more (take i words) (getD words i 0)
+
+      bytes : next ≡ summaryBytes (take (i + 1) words) ++ drop (8 * (i + 1)) before
+      bytes =
+          e ∙ ap₂ (λ (x y : List ℕ). x ++ cut 8 (bit (getD words i 0)) 8 ++ y) head rest
+          ∙ ap (λ (x : List ℕ). x ++ drop (8 * (i + 1)) before) (sym more)
+
+  pub put-done : (now : List ℕ) (i : ℕ) → length words ≤ i → Put before words now i → now ≡ summaryBytes words ++ drop (8 * length words) before
+  put-done now i l p =
+      let n : i ≡ length words = omega (arith, p .inside) in
+      p .bytes ∙ ap₂ (λ (ws : List ℕ) (k : ℕ). summaryBytes ws ++ drop (8 * k) before) (take-all i words l) n

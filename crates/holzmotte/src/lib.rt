@@ -21,24 +21,16 @@ fn refusal(why: Refusal, place: usize) -> u64
     number(why) + 256 * (place as u64)
 }
 
-// Three words at the start of a summary.
-fn put_three(summary: &mut [u8], a: u64, b: u64, c: u64)
-    requires { ⌜ 24 ≤ length (now summary) ⌝ }
-    ensures { λ _. ⌜ now (summary .exit) ≡ summaryBytes (a ∷ b ∷ c ∷ []) ++ drop 24 (now (summary .entry)) ⌝ }
+// Words at the start of a summary.
+fn put_words(summary: &mut [u8], words: &[u64])
+    requires { ⌜ 8 * length (now words) ≤ length (now summary) ⌝ }
+    ensures { λ _. ⌜ now (summary .exit) ≡ summaryBytes (now (words .entry)) ++ drop (8 * length (now (words .entry))) (now (summary .entry)) ⌝ }
 {
-    store(summary, 0, a);
-    store(summary, 8, b);
-    store(summary, 16, c);
-}
-
-// Five words at the start of a summary.
-fn put_five(summary: &mut [u8], a: u64, b: u64, c: u64, d: u64, e: u64)
-    requires { ⌜ 40 ≤ length (now summary) ⌝ }
-    ensures { λ _. ⌜ now (summary .exit) ≡ summaryBytes (a ∷ b ∷ c ∷ d ∷ e ∷ []) ++ drop 40 (now (summary .entry)) ⌝ }
-{
-    put_three(summary, a, b, c);
-    store(summary, 24, d);
-    store(summary, 32, e);
+    let mut i = 0;
+    while i < words.len() {
+        store(summary, 8 * i, words[i]);
+        i += 1;
+    }
 }
 
 // 1 for true, 0 for false.
@@ -76,11 +68,11 @@ pub extern "C" fn holzmotte_send(
     }
     match send(vectors, start, line) {
         Sent::Done(s) => {
-            put_three(summary, s.state, s.diagram, s.replaced);
+            put_words(summary, &[s.state, s.diagram, s.replaced]);
             0
         }
         Sent::Refused(why, place) => {
-            put_three(summary, 0, 0, 0);
+            put_words(summary, &[0; 3]);
             refusal(why, place)
         }
     }
@@ -110,18 +102,14 @@ pub extern "C" fn holzmotte_receive(line: &[u8], vectors: &mut [u8], summary: &m
     match receive(line, vectors) {
         Received::Done(s) => {
             let c = s.counts;
-            put_five(
+            put_words(
                 summary,
-                c.tested,
-                c.slips,
-                flag(s.locked),
-                flag(s.high),
-                s.vectors,
+                &[c.tested, c.slips, flag(s.locked), flag(s.high), s.vectors],
             );
             0
         }
         Received::Refused(why, place) => {
-            put_five(summary, 0, 0, 0, 0, 0);
+            put_words(summary, &[0; 5]);
             refusal(why, place)
         }
     }

@@ -30,19 +30,25 @@ flag-requires c κs = search needs
 flag-requires-2 : tie.Need-flag-requires-2
 flag-requires-2 c κs = search needs
 
-put-five-requires : tie.Need-put-five-requires
-put-five-requires c κs = search needs
+slice-aggregate-put-words : tie.Need-slice-aggregate-put-words
+slice-aggregate-put-words c = search needs
+
+put-words-requires : tie.Need-put-words-requires
+put-words-requires c κs = search needs
 
 enum-known-why : tie.Need-enum-known-why
 enum-known-why c = search needs
 
-put-five-requires-2 : tie.Need-put-five-requires-2
-put-five-requires-2 c κs = search needs
+slice-aggregate-put-words-2 : tie.Need-slice-aggregate-put-words-2
+slice-aggregate-put-words-2 c = search needs
+
+put-words-requires-2 : tie.Need-put-words-requires-2
+put-words-requires-2 c κs = search needs
 
 refusal-requires : tie.Need-refusal-requires
 refusal-requires c κs =
-    let a = c .before .before .before .before .before .before .before .before .before .before .before .before .before .before .before .args in
-    small (now (a .line)) (length (now (a .vectors))) _ _ (sym (ap answerOf (c .before .before .before .before .before .why .given .1)) ∙ c .before .before .before .before .before .before .before .before .before .receive .ensures .0)
+    let a = c .before .before .before .before .before .before .before .before .before .before .before .before .before .before .before .before .args in
+    small (now (a .line)) (length (now (a .vectors))) _ _ (sym (ap answerOf (c .before .before .before .before .before .before .why .given .1)) ∙ c .before .before .before .before .before .before .before .before .before .before .receive .ensures .0)
 
 same-length : tie.Need-same-length
 same-length c = search needs
@@ -52,11 +58,11 @@ same-length-2 c = search needs
 
 returns-2 : tie.Need-returns-2
 returns-2 c =
-    let a = c .before .before .before .before .before .before .before .before .before .before .before .before .before .before .before .before .before .before .args in
-    let s = c .before .before .before .before .before .before .before .before .s .given .0 .0 in
+    let a = c .before .before .before .before .before .before .before .before .before .before .before .before .before .before .before .before .before .before .before .args in
+    let s = c .before .before .before .before .before .before .before .before .before .s .given .0 .0 in
     let t =
-    answered (now (a .line)) (now (a .vectors)) (now (a .summary)) _ _ _ (c .before .before .before .before .before .before .before .before .before .before .before .before .before .before .if1 .left) (sym (ap answerOf (c .before .before .before .before .before .before .before .before .s .given .1)) ∙ c .before .before .before .before .before .before .before .before .before .before .before .before .receive .ensures .0) (c .before .before .before .before .before .before .before .before .before .before .before .before .receive .ensures .1)
-    (flagged s (c .before .before .before .before .flag .result) (c .before .before .before .flag2 .result) (drop 40 (now (a .summary))) _ (c .before .before .before .before .flag .ensures) (c .before .before .before .flag2 .ensures) (c .before .before .put-five .ensures)) in
+    answered (now (a .line)) (now (a .vectors)) (now (a .summary)) _ _ _ (c .before .before .before .before .before .before .before .before .before .before .before .before .before .before .before .if1 .left) (sym (ap answerOf (c .before .before .before .before .before .before .before .before .before .s .given .1)) ∙ c .before .before .before .before .before .before .before .before .before .before .before .before .before .receive .ensures .0) (c .before .before .before .before .before .before .before .before .before .before .before .before .before .receive .ensures .1)
+    (flagged s (c .before .before .before .before .before .flag .result) (c .before .before .before .before .flag2 .result) (drop 40 (now (a .summary))) _ (c .before .before .before .before .before .flag .ensures) (c .before .before .before .before .flag2 .ensures) (c .before .before .put-words .ensures)) in
     (t .0, (t .1, t .2))
 
 same-length-3 : tie.Need-same-length-3
@@ -67,8 +73,8 @@ same-length-4 c = search needs
 
 returns-3 : tie.Need-returns-3
 returns-3 c =
-    let a = c .before .before .before .before .before .before .before .before .before .before .before .before .before .before .before .before .args in
-    let t = answered (now (a .line)) (now (a .vectors)) (now (a .summary)) _ _ _ (c .before .before .before .before .before .before .before .before .before .before .before .before .if1 .left) (sym (ap answerOf (c .before .before .before .before .before .before .why .given .1)) ∙ c .before .before .before .before .before .before .before .before .before .before .receive .ensures .0) (c .before .before .before .before .before .before .before .before .before .before .receive .ensures .1) (c .before .before .before .put-five2 .ensures) in
+    let a = c .before .before .before .before .before .before .before .before .before .before .before .before .before .before .before .before .before .args in
+    let t = answered (now (a .line)) (now (a .vectors)) (now (a .summary)) _ _ _ (c .before .before .before .before .before .before .before .before .before .before .before .before .before .if1 .left) (sym (ap answerOf (c .before .before .before .before .before .before .before .why .given .1)) ∙ c .before .before .before .before .before .before .before .before .before .before .before .receive .ensures .0) (c .before .before .before .before .before .before .before .before .before .before .before .receive .ensures .1) (c .before .before .before .put-words2 .ensures) in
     (c .refusal .ensures ∙ t .0, (t .1, t .2))
 
 pub holzmotte-receive-spec : {M : Type 1} → statement M
@@ -81,9 +87,11 @@ holzmotte-receive-spec =
     enum-known-s
     flag-requires
     flag-requires-2
-    put-five-requires
+    slice-aggregate-put-words
+    put-words-requires
     enum-known-why
-    put-five-requires-2
+    slice-aggregate-put-words-2
+    put-words-requires-2
     refusal-requires
     same-length
     same-length-2

@@ -24,19 +24,25 @@ send-requires c κs = search needs
 enum-known-s : tie.Need-enum-known-s
 enum-known-s c = search needs
 
-put-three-requires : tie.Need-put-three-requires
-put-three-requires c κs = search needs
+slice-aggregate-put-words : tie.Need-slice-aggregate-put-words
+slice-aggregate-put-words c = search needs
+
+put-words-requires : tie.Need-put-words-requires
+put-words-requires c κs = search needs
 
 enum-known-why : tie.Need-enum-known-why
 enum-known-why c = search needs
 
-put-three-requires-2 : tie.Need-put-three-requires-2
-put-three-requires-2 c κs = search needs
+slice-aggregate-put-words-2 : tie.Need-slice-aggregate-put-words-2
+slice-aggregate-put-words-2 c = search needs
+
+put-words-requires-2 : tie.Need-put-words-requires-2
+put-words-requires-2 c κs = search needs
 
 refusal-requires : tie.Need-refusal-requires
 refusal-requires c κs =
-    let a = c .before .before .before .before .before .before .before .before .before .before .before .before .before .before .before .args in
-    small (now (a .vectors)) (a .start) (length (now (a .line))) _ _ (sym (ap answerOf (c .before .before .before .before .before .why .given .1)) ∙ c .before .before .before .before .before .before .before .before .before .send .ensures .0)
+    let a = c .before .before .before .before .before .before .before .before .before .before .before .before .before .before .before .before .args in
+    small (now (a .vectors)) (a .start) (length (now (a .line))) _ _ (sym (ap answerOf (c .before .before .before .before .before .before .why .given .1)) ∙ c .before .before .before .before .before .before .before .before .before .before .send .ensures .0)
 
 same-length : tie.Need-same-length
 same-length c = search needs
@@ -46,8 +52,8 @@ same-length-2 c = search needs
 
 returns-2 : tie.Need-returns-2
 returns-2 c =
-    let a = c .before .before .before .before .before .before .before .before .before .before .before .before .before .before .before .args in
-    let t = answered (now (a .vectors)) (now (a .line)) (now (a .summary)) _ _ (a .start) _ (c .before .before .before .before .before .before .before .before .before .before .before .if1 .left) (sym (ap answerOf (c .before .before .before .before .before .s .given .1)) ∙ c .before .before .before .before .before .before .before .before .before .send .ensures .0) (c .before .before .before .before .before .before .before .before .before .send .ensures .1) (c .before .before .put-three .ensures) in
+    let a = c .before .before .before .before .before .before .before .before .before .before .before .before .before .before .before .before .args in
+    let t = answered (now (a .vectors)) (now (a .line)) (now (a .summary)) _ _ (a .start) _ (c .before .before .before .before .before .before .before .before .before .before .before .before .if1 .left) (sym (ap answerOf (c .before .before .before .before .before .before .s .given .1)) ∙ c .before .before .before .before .before .before .before .before .before .before .send .ensures .0) (c .before .before .before .before .before .before .before .before .before .before .send .ensures .1) (c .before .before .put-words .ensures) in
     (t .0, (t .1, t .2))
 
 same-length-3 : tie.Need-same-length-3
@@ -58,8 +64,8 @@ same-length-4 c = search needs
 
 returns-3 : tie.Need-returns-3
 returns-3 c =
-    let a = c .before .before .before .before .before .before .before .before .before .before .before .before .before .before .before .before .args in
-    let t = answered (now (a .vectors)) (now (a .line)) (now (a .summary)) _ _ (a .start) _ (c .before .before .before .before .before .before .before .before .before .before .before .before .if1 .left) (sym (ap answerOf (c .before .before .before .before .before .before .why .given .1)) ∙ c .before .before .before .before .before .before .before .before .before .before .send .ensures .0) (c .before .before .before .before .before .before .before .before .before .before .send .ensures .1) (c .before .before .before .put-three2 .ensures) in
+    let a = c .before .before .before .before .before .before .before .before .before .before .before .before .before .before .before .before .before .args in
+    let t = answered (now (a .vectors)) (now (a .line)) (now (a .summary)) _ _ (a .start) _ (c .before .before .before .before .before .before .before .before .before .before .before .before .before .if1 .left) (sym (ap answerOf (c .before .before .before .before .before .before .before .why .given .1)) ∙ c .before .before .before .before .before .before .before .before .before .before .before .send .ensures .0) (c .before .before .before .before .before .before .before .before .before .before .before .send .ensures .1) (c .before .before .before .put-words2 .ensures) in
     (c .refusal .ensures ∙ t .0, (t .1, t .2))
 
 pub holzmotte-send-spec : {M : Type 1} → statement M
@@ -70,9 +76,11 @@ holzmotte-send-spec =
     returns
     send-requires
     enum-known-s
-    put-three-requires
+    slice-aggregate-put-words
+    put-words-requires
     enum-known-why
-    put-three-requires-2
+    slice-aggregate-put-words-2
+    put-words-requires-2
     refusal-requires
     same-length
     same-length-2
