@@ -1,6 +1,7 @@
 pub mod Tests
 pub mod Formats
 pub mod Reading
+pub mod Telling
 pub mod Sending
 pub mod Near
 pub mod High
