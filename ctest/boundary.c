@@ -84,6 +84,15 @@ static int refused(size_t words)
     return all(out, out_len, ROOM) && all(summary, zeros, 0) && all(summary + zeros, summary_len - zeros, SUMMARY);
 }
 
+/* Is one bad block counted under this word of receiving's summary and none under the others? None at all where the word is 0. */
+static int only_fault(int word)
+{
+    for (int i = HOLZMOTTE_RECEIVE_HEADER_FAULTS; i <= HOLZMOTTE_RECEIVE_SET_CODE_FAULTS; i++)
+        if (holzmotte_word(summary, i) != (i == word))
+            return 0;
+    return 1;
+}
+
 static void whole_calls(void)
 {
     for (size_t vectors = 4; vectors <= 400; vectors += 4) {
@@ -104,6 +113,7 @@ static void whole_calls(void)
         CHECK(holzmotte_word(summary, HOLZMOTTE_RECEIVE_SLIPS) == 0);
         CHECK(holzmotte_word(summary, HOLZMOTTE_RECEIVE_LOCKED) == (vectors >= 64));
         CHECK(holzmotte_word(summary, HOLZMOTTE_RECEIVE_HIGH) == 0);
+        CHECK(only_fault(0));
         CHECK(out[out_len - 1] == (vectors >= 64 ? 0x07 : 0x01));
     }
     group("lists of 4 to 400 vectors sent and received, every buffer exact");
@@ -164,8 +174,38 @@ static void longer_slices(void)
     CHECK(memcmp(out, "\x01\x9c\x00\x00\x01\x01\x9c\x00\x00\x01", 10) == 0);
     CHECK(all(out + 10, 100, ROOM));
     CHECK(holzmotte_word(summary, HOLZMOTTE_RECEIVE_TESTED) == 1 && holzmotte_word(summary, HOLZMOTTE_RECEIVE_SLIPS) == 1);
-    CHECK(all(summary + 40, 9, SUMMARY));
+    CHECK(only_fault(HOLZMOTTE_RECEIVE_HEADER_FAULTS));
+    CHECK(all(summary + 72, 9, SUMMARY));
     group("longer slices keep their rest");
+}
+
+/* Receives one block, its payload scrambled from state 0, and looks for the word that counts it. */
+static void counts(unsigned header, uint64_t payload, int word)
+{
+    uint64_t scrambled = payload ^ payload << 39 ^ payload << 58;
+    lend(9, 10, HOLZMOTTE_RECEIVE_SUMMARY_BYTES);
+    in[0] = (uint8_t)(header | scrambled << 2);
+    for (int i = 1; i < 9; i++)
+        in[i] = (uint8_t)(scrambled >> (8 * i - 2));
+    CHECK(receives() == HOLZMOTTE_DONE);
+    CHECK(only_fault(word));
+}
+
+#define CONTROL 1 /* first bit lowest: 1, then 0 */
+#define DATA 2
+
+static void bad_blocks(void)
+{
+    counts(DATA, 0x00, 0);
+    counts(CONTROL, 0x1e, 0);
+    counts(0, 0x1e, HOLZMOTTE_RECEIVE_HEADER_FAULTS);
+    counts(3, 0x1e, HOLZMOTTE_RECEIVE_HEADER_FAULTS);
+    counts(CONTROL, 0x00, HOLZMOTTE_RECEIVE_TYPE_FAULTS);
+    counts(CONTROL, 0x011e, HOLZMOTTE_RECEIVE_CONTROL_CODE_FAULTS);             /* code 01 */
+    counts(CONTROL, 0x3c78f1e3c78f1e1e, HOLZMOTTE_RECEIVE_CONTROL_CODE_FAULTS); /* the error block */
+    counts(CONTROL, 0x010000004b, HOLZMOTTE_RECEIVE_SET_CODE_FAULTS);           /* ordered set code 1 */
+    counts(CONTROL, 0x110000004b, HOLZMOTTE_RECEIVE_CONTROL_CODE_FAULTS);       /* and code 01 */
+    group("bad blocks, one at a time, each counted under its reason");
 }
 
 /* Sends idles, with one control byte spoilt where `spoilt` is an offset in them, and looks for a refusal. */
@@ -217,14 +257,14 @@ static void receive_refused(size_t bytes, size_t room, size_t words, int number)
 static void receiving_refusals(void)
 {
     for (int i = 0; i < 4; i++) {
-        size_t words = (const size_t[]){40, 48, 39, 0}[i];
+        size_t words = (const size_t[]){72, 80, 71, 0}[i];
         receive_refused(HOLZMOTTE_MAX_LINE_BYTES + 1, 0, words, HOLZMOTTE_TOO_LONG);
         receive_refused(HOLZMOTTE_MAX_LINE_BYTES + 1, 1000010, words, HOLZMOTTE_TOO_LONG);
         receive_refused(9, 9, words, HOLZMOTTE_NO_ROOM);
         receive_refused(33, 39, words, HOLZMOTTE_NO_ROOM);
         receive_refused(HOLZMOTTE_MAX_LINE_BYTES, 999999, words, HOLZMOTTE_NO_ROOM);
     }
-    for (size_t words = 0; words < 40; words++)
+    for (size_t words = 0; words < 72; words++)
         receive_refused(33, 40, words, HOLZMOTTE_NO_ROOM);
     group("receiving's refusals, in their order, with short summaries");
 }
@@ -236,6 +276,7 @@ int main(void)
     the_longest();
     empty_slices();
     longer_slices();
+    bad_blocks();
     sending_refusals();
     receiving_refusals();
     printf("%d passed, %d failed\n", passed, failed);

@@ -21,7 +21,8 @@
  * What is written. A success writes exactly the bytes that stand at each function, from the start of the lent slice, and leaves the
  * rest of the slice as it was. A refusal leaves `line` or `vectors` as it was and writes the summary's bytes as zeros; where the
  * summary slice is too short for them it stays as it was, whatever the refusal. Later versions may append words to a summary
- * and never move one.
+ * and never move one: a program that was compiled for a shorter summary is refused with 4 by a later library, and has to be compiled
+ * anew with its header.
  */
 #ifndef HOLZMOTTE_H
 #define HOLZMOTTE_H
@@ -40,7 +41,7 @@ extern "C" {
 #define HOLZMOTTE_MAX_VECTOR_BYTES 1000000
 #define HOLZMOTTE_MAX_LINE_BYTES 825000
 #define HOLZMOTTE_SEND_SUMMARY_BYTES 24
-#define HOLZMOTTE_RECEIVE_SUMMARY_BYTES 40
+#define HOLZMOTTE_RECEIVE_SUMMARY_BYTES 72
 
 /* The room that sending wants for its line, and receiving for its vectors (also where slips leave fewer vectors than fit). */
 #define HOLZMOTTE_LINE_ROOM(vector_bytes) ((size_t)(vector_bytes) / 40 * 33)
@@ -70,12 +71,22 @@ enum holzmotte_send_word {
     HOLZMOTTE_SEND_REPLACED = 2 /* how many vectors were sent as the error block */
 };
 
+/* Words 5 to 8 count bad blocks (kind E) by reason. A bad block counts once, under the first of the four that applies to it, so
+ * together they are all the bad blocks among those tested.
+ *   - Every tested block is judged, locked or not. Before lock the four say little: blocks may be cut at a wrong place then, and the
+ *     descrambler is not settled in the first block of a line and after a slip.
+ *   - An error block that the far end sent (type 1e with eight codes 1e) is a control code fault.
+ *   - A good block out of turn, such as data outside a frame, may be answered as the error vector: it counts under none of them. */
 enum holzmotte_receive_word {
-    HOLZMOTTE_RECEIVE_TESTED = 0, /* blocks whose header was tested */
-    HOLZMOTTE_RECEIVE_SLIPS = 1,  /* slips: one line bit skipped for each, in search of lock */
-    HOLZMOTTE_RECEIVE_LOCKED = 2, /* 1 where the receiver has block lock at the end, else 0 */
-    HOLZMOTTE_RECEIVE_HIGH = 3,   /* 1 where the error rate is high at the end, else 0 */
-    HOLZMOTTE_RECEIVE_VECTORS = 4 /* vectors written: one for each tested block */
+    HOLZMOTTE_RECEIVE_TESTED = 0,              /* blocks whose header was tested */
+    HOLZMOTTE_RECEIVE_SLIPS = 1,               /* slips: one line bit skipped for each, in search of lock */
+    HOLZMOTTE_RECEIVE_LOCKED = 2,              /* 1 where the receiver has block lock at the end, else 0 */
+    HOLZMOTTE_RECEIVE_HIGH = 3,                /* 1 where the error rate is high at the end, else 0 */
+    HOLZMOTTE_RECEIVE_VECTORS = 4,             /* vectors written: one for each tested block */
+    HOLZMOTTE_RECEIVE_HEADER_FAULTS = 5,       /* the two header bits are equal */
+    HOLZMOTTE_RECEIVE_TYPE_FAULTS = 6,         /* a control block whose type is none of the fifteen */
+    HOLZMOTTE_RECEIVE_CONTROL_CODE_FAULTS = 7, /* a 7-bit code of no control character; in type 1e also the error character's, 1e */
+    HOLZMOTTE_RECEIVE_SET_CODE_FAULTS = 8      /* an ordered set code other than 0 and f */
 };
 
 enum holzmotte_diagram { HOLZMOTTE_INIT = 0, HOLZMOTTE_C = 1, HOLZMOTTE_D = 2, HOLZMOTTE_T = 3, HOLZMOTTE_E = 4 };

@@ -1,9 +1,10 @@
 //! The fast version keeps the library's contract: same result and same bytes, on many short calls, refused ones too.
 use crate::fast;
 use compare::library;
-use compare::lines::Line;
+use compare::lines::{control, idle, until_high, Line};
 use compare::lists;
 use compare::random::Random;
+use compare::reference::block::{put, FORMATS};
 
 /// Calls both with lent slices of these lengths.
 fn same(room: usize, summary_room: usize, call: impl Fn(&mut [u8], &mut [u8], bool) -> u64) {
@@ -37,9 +38,28 @@ fn receiving(random: &mut Random) {
     if !line.bits.is_empty() {
         line.flip_some(random.below(40), 0, random);
     }
+    receiving_line(&line, random);
+}
+
+/// Blocks of every type with any codes, by a receiver that is locked, high or neither.
+fn receiving_bad_blocks(random: &mut Random) {
+    let mut blocks = match random.below(3) {
+        0 => vec![],
+        1 => vec![idle(); 64],
+        _ => until_high(),
+    };
+    for format in FORMATS.iter() {
+        let mut block = control(random);
+        put(&mut block.payload, 0, 8, format.type_byte);
+        blocks.push(block);
+    }
+    receiving_line(&Line::of_blocks(&blocks, random.start_state()), random);
+}
+
+fn receiving_line(line: &Line, random: &mut Random) {
     let line = line.bytes();
     let room = (8 * line.len() / 66 * 10 + 3).saturating_sub(random.below(5));
-    same(room, 43 - random.below(5), |vectors, summary, by_library| {
+    same(room, library::RECEIVE_SUMMARY_BYTES + 3 - random.below(5), |vectors, summary, by_library| {
         let receive = if by_library { library::receive } else { fast::receive };
         receive(&line, vectors, summary)
     });
@@ -50,13 +70,14 @@ pub fn check() {
     for _ in 0..2_000 {
         sending(&mut random);
         receiving(&mut random);
+        receiving_bad_blocks(&mut random);
     }
     let too_long = vec![0; 1_000_040];
     same(825_033, 24, |line, summary, by_library| {
         let send = if by_library { library::send } else { fast::send };
         send(&too_long, 0, line, summary)
     });
-    same(1_000_010, 40, |vectors, summary, by_library| {
+    same(1_000_010, library::RECEIVE_SUMMARY_BYTES, |vectors, summary, by_library| {
         let receive = if by_library { library::receive } else { fast::receive };
         receive(&too_long[..825_001], vectors, summary)
     });

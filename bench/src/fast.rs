@@ -264,11 +264,21 @@ struct Tested {
     octets: u64,
 }
 
-/// `n` control characters from packed codes; `None` where a code has none.
+/// Why a block is bad, in the summary's order.
+#[derive(Clone, Copy)]
+#[repr(u8)]
+enum Fault {
+    Header,
+    Type,
+    ControlCode,
+    SetCode,
+}
+
+/// `n` control characters from packed codes.
 #[inline(always)]
-fn unpack_codes(codes: u64, n: u32) -> Option<u64> {
+fn unpack_codes(codes: u64, n: u32) -> Result<u64, Fault> {
     if codes == 0 {
-        return Some(if n == 0 { 0 } else { IDLES >> (64 - 8 * n) });
+        return Ok(if n == 0 { 0 } else { IDLES >> (64 - 8 * n) });
     }
     let (mut octets, mut bad) = (0, false);
     for i in 0..n {
@@ -276,20 +286,23 @@ fn unpack_codes(codes: u64, n: u32) -> Option<u64> {
         bad |= octet == 0;
         octets |= (octet as u64) << (8 * i);
     }
-    (!bad).then_some(octets)
+    if bad {
+        return Err(Fault::ControlCode);
+    }
+    Ok(octets)
 }
 
 #[inline(always)]
-fn o_octet(code: u64) -> Option<u64> {
+fn o_octet(code: u64) -> Result<u64, Fault> {
     match code & 15 {
-        0x0 => Some(0x9c),
-        0xf => Some(0x5c),
-        _ => None,
+        0x0 => Ok(0x9c),
+        0xf => Ok(0x5c),
+        _ => Err(Fault::SetCode),
     }
 }
 
-/// Kind, control flags and octets of a control block.
-fn decode(payload: u64) -> Option<(Kind, u8, u64)> {
+/// Kind, control flags and octets of a control block. Control codes are looked at before ordered set codes.
+fn decode(payload: u64) -> Result<(Kind, u8, u64), Fault> {
     let low_data = (payload >> 8) & 0xff_ffff; // D1 to D3
     let high_data = (payload >> 40) << 40; // D5 to D7, in their place in the vector
     let low_codes = (payload >> 8) & 0xfff_ffff; // C0 to C3
@@ -298,14 +311,17 @@ fn decode(payload: u64) -> Option<(Kind, u8, u64)> {
         0x1e => {
             let octets = unpack_codes(payload >> 8, 8)?;
             let has_error = (0..8).any(|i| (octets >> (8 * i)) as u8 == 0xfe);
-            (!has_error).then_some((Kind::C, 0xff, octets))
+            if has_error {
+                return Err(Fault::ControlCode);
+            }
+            Ok((Kind::C, 0xff, octets))
         }
-        0x2d => Some((Kind::C, 0x1f, unpack_codes(low_codes, 4)? | o_octet(p)? << 32 | high_data)),
-        0x33 => Some((Kind::S, 0x1f, unpack_codes(low_codes, 4)? | 0xfb << 32 | high_data)),
-        0x66 => Some((Kind::S, 0x11, o_octet(o)? | low_data << 8 | 0xfb << 32 | high_data)),
-        0x55 => Some((Kind::C, 0x11, o_octet(o)? | low_data << 8 | o_octet(p)? << 32 | high_data)),
-        0x78 => Some((Kind::S, 0x01, (payload & !0xff) | 0xfb)),
-        0x4b => Some((Kind::C, 0xf1, o_octet(o)? | low_data << 8 | unpack_codes(p, 4)? << 32)),
+        0x2d => Ok((Kind::C, 0x1f, unpack_codes(low_codes, 4)? | o_octet(p)? << 32 | high_data)),
+        0x33 => Ok((Kind::S, 0x1f, unpack_codes(low_codes, 4)? | 0xfb << 32 | high_data)),
+        0x66 => Ok((Kind::S, 0x11, o_octet(o)? | low_data << 8 | 0xfb << 32 | high_data)),
+        0x55 => Ok((Kind::C, 0x11, o_octet(o)? | low_data << 8 | o_octet(p)? << 32 | high_data)),
+        0x78 => Ok((Kind::S, 0x01, (payload & !0xff) | 0xfb)),
+        0x4b => Ok((Kind::C, 0xf1, unpack_codes(p, 4)? << 32 | o_octet(o)? | low_data << 8)),
         0x87 => ended(payload, 0),
         0x99 => ended(payload, 1),
         0xaa => ended(payload, 2),
@@ -314,16 +330,36 @@ fn decode(payload: u64) -> Option<(Kind, u8, u64)> {
         0xd2 => ended(payload, 5),
         0xe1 => ended(payload, 6),
         0xff => ended(payload, 7),
-        _ => None,
+        _ => Err(Fault::Type),
     }
 }
 
 /// A block with Terminate at `k`.
 #[inline(always)]
-fn ended(payload: u64, k: u32) -> Option<(Kind, u8, u64)> {
+fn ended(payload: u64, k: u32) -> Result<(Kind, u8, u64), Fault> {
     let data = (payload >> 8) & ((1 << (8 * k)) - 1);
     let codes = if k < 7 { unpack_codes(payload >> (15 + 7 * k), 7 - k)? << (8 * k) << 8 } else { 0 };
-    Some((Kind::T, 0xff << k, data | 0xfd << (8 * k) | codes))
+    Ok((Kind::T, 0xff << k, data | 0xfd << (8 * k) | codes))
+}
+
+/// What header and type alone say of a block: a fault, that it is good, or that its codes decide.
+static AT_ONCE: [u8; 1024] = at_once();
+const GOOD: u8 = 4;
+const CODES: u8 = 5;
+
+const fn at_once() -> [u8; 1024] {
+    let mut table = [Fault::Header as u8; 1024];
+    let mut byte = 0;
+    while byte < 256 {
+        table[DATA as usize * 256 + byte] = GOOD;
+        table[CONTROL as usize * 256 + byte] = match byte {
+            0x1e | 0x2d | 0x33 | 0x66 | 0x55 | 0x78 | 0x4b => CODES,
+            0x87 | 0x99 | 0xaa | 0xb4 | 0xcc | 0xd2 | 0xe1 | 0xff => CODES,
+            _ => Fault::Type as u8,
+        };
+        byte += 1;
+    }
+    table
 }
 
 /// The receive diagram's next state, by state and kind, with every Terminate accepted.
@@ -335,6 +371,7 @@ static NEXT: [[State; 6]; 5] = [
     [State::D, State::C, State::E, State::T, State::E, State::Init],
 ];
 
+#[derive(Default)]
 struct Receiver {
     tested: u32,
     invalid: u32,
@@ -343,6 +380,8 @@ struct Receiver {
     window_invalid: u32,
     high: bool,
     last: u64,
+    /// Blocks by `Fault`; the fifth place takes good ones that are not answered, and is not told.
+    faults: [u64; 5],
 }
 
 impl Receiver {
@@ -388,13 +427,32 @@ impl Receiver {
         let last = std::mem::replace(&mut self.last, payload);
         let plain = payload ^ (payload << 39 | last >> 25) ^ (payload << 58 | last >> 6);
         let (kind, flags, octets) = match (header, plain) {
-            _ if !self.locked || self.high => (Kind::Down, 0, 0),
-            _ if invalid => (Kind::E, 0, 0),
+            _ if !self.locked || self.high => self.down(header, plain),
+            _ if invalid => self.bad(Fault::Header),
             (DATA, _) => (Kind::D, 0, plain),
             (_, IDLE_PAYLOAD) => (Kind::C, 0xff, IDLES),
-            _ => decode(plain).unwrap_or((Kind::E, 0, 0)),
+            _ => decode(plain).unwrap_or_else(|fault| self.bad(fault)),
         };
         (Tested { kind, flags, octets }, slips)
+    }
+
+    /// Counts a bad block.
+    #[inline(always)]
+    fn bad(&mut self, fault: Fault) -> (Kind, u8, u64) {
+        self.faults[fault as usize] += 1;
+        (Kind::E, 0, 0)
+    }
+
+    /// Counts a block that is not answered. Its header and type may be noise, and a branch on them a guess: a table has no branch.
+    #[inline(always)]
+    fn down(&mut self, header: u64, plain: u64) -> (Kind, u8, u64) {
+        let at_once = AT_ONCE[(header << 8 | plain & 255) as usize];
+        if at_once != CODES {
+            self.faults[at_once as usize] += 1;
+        } else if let Err(fault) = decode(plain) {
+            self.faults[fault as usize] += 1;
+        }
+        (Kind::Down, 0, 0)
     }
 }
 
@@ -449,15 +507,14 @@ fn payload_at(line: &[u8], at: usize) -> u64 {
 #[inline(never)]
 pub fn receive(line: &[u8], vectors: &mut [u8], summary: &mut [u8]) -> u64 {
     if line.len() > 825_000 {
-        return refuse(summary, 5, 1, 0);
+        return refuse(summary, 9, 1, 0);
     }
     let bits = 8 * line.len();
     let wanted = bits / 66 * 10;
-    if vectors.len() < wanted || summary.len() < 40 {
-        return refuse(summary, 5, 4, 0);
+    if vectors.len() < wanted || summary.len() < 72 {
+        return refuse(summary, 9, 4, 0);
     }
-    let mut receiver =
-        Receiver { tested: 0, invalid: 0, locked: false, window: 0, window_invalid: 0, high: false, last: 0 };
+    let mut receiver = Receiver::default();
     let mut state = State::Init;
     let (mut tested, mut slips, mut at) = (0, 0, 0);
     while at + 66 <= bits {
@@ -468,7 +525,8 @@ pub fn receive(line: &[u8], vectors: &mut [u8], summary: &mut [u8]) -> u64 {
         at += 66 + slipped as usize;
     }
     judge_terminate(&mut state, Kind::E, vectors, tested);
-    let words = [tested as u64, slips, receiver.locked as u64, receiver.high as u64, tested as u64];
-    put_words(summary, &words);
+    let [header, type_byte, control_code, set_code, ..] = receiver.faults;
+    let (locked, high) = (receiver.locked as u64, receiver.high as u64);
+    put_words(summary, &[tested as u64, slips, locked, high, tested as u64, header, type_byte, control_code, set_code]);
     0
 }

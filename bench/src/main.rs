@@ -54,7 +54,7 @@ impl Row<'_> {
         fast: impl Fn(&mut [u8], &mut [u8]) -> u64,
     ) {
         let [mut out, mut fast_out] = [vec![0; room], vec![0; room]];
-        let [mut summary, mut fast_summary] = [[0; 40]; 2];
+        let [mut summary, mut fast_summary] = [[0; library::RECEIVE_SUMMARY_BYTES]; 2];
         let results = [library(&mut out, &mut summary), fast(&mut fast_out, &mut fast_summary)];
         let same = results == [0, 0] && out == fast_out && summary == fast_summary;
         assert!(same, "{} {}: they differ", self.direction, self.line);

@@ -42,6 +42,8 @@ pub struct Tally {
     pub sent: u64,
     pub receives: u64,
     pub received: u64,
+    /// Bad blocks among those received, by reason.
+    pub faults: [u64; 4],
     pub refusals: u64,
 }
 
@@ -51,7 +53,12 @@ impl Tally {
         self.sent += other.sent;
         self.receives += other.receives;
         self.received += other.received;
+        self.add_faults(other.faults);
         self.refusals += other.refusals;
+    }
+
+    fn add_faults(&mut self, faults: [u64; 4]) {
+        self.faults = std::array::from_fn(|i| self.faults[i] + faults[i]);
     }
 }
 
@@ -119,6 +126,7 @@ impl Calls {
         let got = library::receive(input.slice(), vectors.slice(), summary.slice());
         self.tally.receives += 1;
         self.tally.received += output.len() as u64 / 10;
+        self.tally.add_faults(answer.map_or([0; 4], |received| received.faults()));
         same(
             &format!("receiving {} bytes, room {room}, summary {summary_room}", line.len()),
             ["line", "vectors", "summary"],
@@ -133,6 +141,13 @@ impl Calls {
         let zeros = if room < words { 0 } else { words };
         (refusal.number + 256 * refusal.place as u64, Vec::new(), vec![0; zeros])
     }
+}
+
+/// The vectors and the words of the summary of a line, on which the library and the second program agree.
+pub fn agreed(line: &[u8]) -> (Vec<u8>, [u64; library::RECEIVE_WORDS]) {
+    Calls::new(1).receive(line).unwrap();
+    let (vectors, summary) = library::received(line);
+    (vectors, library::words(&summary))
 }
 
 /// Compares result and slices, guards included.

@@ -1,6 +1,7 @@
 //! The groups of comparisons. Each is given calls to make, and random numbers with them; the first difference ends it.
 mod blocks;
 mod damage;
+mod faults;
 mod lists;
 mod refusals;
 
@@ -12,10 +13,11 @@ pub struct Group {
     pub run: fn(&mut Calls) -> Outcome,
 }
 
-pub const GROUPS: [Group; 12] = [
+pub const GROUPS: [Group; 13] = [
     Group { name: "types", says: "every header and type byte in lock, edge and random payloads", run: blocks::types },
     Group { name: "octets", says: "all 256 octets in each character position of each format", run: blocks::octets },
     Group { name: "codes", says: "every code in each field of each format, unused bits set", run: blocks::codes },
+    Group { name: "faults", says: "bad blocks one at a time: not locked, in lock, high", run: faults::faults },
     Group { name: "lists", says: "legal and illegal lists from random start states", run: lists::short },
     Group { name: "long lists", says: "lists of up to 100,000 vectors", run: lists::long },
     Group { name: "flips", says: "lines with 0 to 3 flipped bits", run: damage::flips },

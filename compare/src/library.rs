@@ -51,9 +51,18 @@ pub fn receive(line: &[u8], vectors: &mut [u8], summary: &mut [u8]) -> u64 {
     }
 }
 
+/// The words of receiving's summary, and its bytes.
+pub const RECEIVE_WORDS: usize = 9;
+pub const RECEIVE_SUMMARY_BYTES: usize = 8 * RECEIVE_WORDS;
+
 /// Word `i` of a summary.
 pub fn word(summary: &[u8], i: usize) -> u64 {
     u64::from_le_bytes(summary[8 * i..8 * i + 8].try_into().unwrap())
+}
+
+/// All words of receiving's summary.
+pub fn words(summary: &[u8; RECEIVE_SUMMARY_BYTES]) -> [u64; RECEIVE_WORDS] {
+    std::array::from_fn(|i| word(summary, i))
 }
 
 /// The line and the summary of a list that sending accepts.
@@ -65,9 +74,9 @@ pub fn sent(vectors: &[u8], start_state: u64) -> (Vec<u8>, [u8; 24]) {
 }
 
 /// The vectors and the summary of a line that receiving accepts.
-pub fn received(line: &[u8]) -> (Vec<u8>, [u8; 40]) {
+pub fn received(line: &[u8]) -> (Vec<u8>, [u8; RECEIVE_SUMMARY_BYTES]) {
     let mut vectors = vec![0; 8 * line.len() / 66 * 10];
-    let mut summary = [0; 40];
+    let mut summary = [0; RECEIVE_SUMMARY_BYTES];
     assert_eq!(receive(line, &mut vectors, &mut summary), 0);
     vectors.truncate(10 * word(&summary, 4) as usize);
     (vectors, summary)

@@ -84,6 +84,12 @@ pub fn idle() -> Block {
     encode(&lists::idle()).unwrap()
 }
 
+/// Blocks that give lock and set high: 15 invalid headers in 64 keep lock, and one more is the 16th of the window.
+pub fn until_high() -> Vec<Block> {
+    let invalid = block([true, true], 0x1e);
+    [vec![idle(); 64], vec![invalid; 15], vec![idle(); 49], vec![invalid]].concat()
+}
+
 /// A block with a header and a payload, bit 0 lowest.
 pub fn block(header: [bool; 2], payload: u64) -> Block {
     Block { header, payload: std::array::from_fn(|i| (payload >> i) & 1 == 1) }

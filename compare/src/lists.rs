@@ -12,6 +12,16 @@ pub fn idle() -> Vector {
     vector(&[Control(0x07); 8])
 }
 
+/// A Start and seven data octets.
+pub fn start() -> Vector {
+    vector(&std::array::from_fn(|i| if i == 0 { Control(START) } else { Data(0x55) }))
+}
+
+/// A Terminate and seven idles.
+pub fn end() -> Vector {
+    vector(&std::array::from_fn(|i| Control(if i == 0 { TERMINATE } else { 0x07 })))
+}
+
 /// A character that fits a letter of the block formats; control characters are mostly idles.
 fn character(letter: char, random: &mut Random) -> Character {
     match letter {

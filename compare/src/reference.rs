@@ -1,7 +1,8 @@
-//! The second program: document 01, bit by bit. It was written from the document alone, to be obvious and not to be fast, and
-//! shares nothing with the library. Comments in quotes are the document's sentences.
+//! The second program: document 01 and the requests of document 02, bit by bit. It was written from the documents alone, to be
+//! obvious and not to be fast, and shares nothing with the library. Comments in quotes are the documents' sentences.
 pub mod block;
 pub mod diagrams;
+pub mod fault;
 pub mod receiving;
 pub mod scrambler;
 pub mod sending;

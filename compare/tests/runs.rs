@@ -1,11 +1,10 @@
 //! "Run and compared": document 01's own list, each run through the library and held to numbers that stand here.
-use compare::calls::Calls;
+use compare::calls::{agreed, Calls};
 use compare::library::{received, send, sent, word};
 use compare::lines::{data, idle, Line};
 use compare::lists;
 use compare::random::Random;
-use compare::reference::vector::{vector, Character, Vector, ERROR, LOCAL_FAULT};
-use Character::{Control, Data};
+use compare::reference::vector::{vector, Character, ERROR, LOCAL_FAULT};
 
 const WINDOW: usize = 19_531;
 
@@ -18,12 +17,10 @@ fn idles(blocks: usize, invalid: impl IntoIterator<Item = usize>) -> Line {
     line
 }
 
-/// What receiving says of a line: tested, slips, locked, high. The second program says the same.
+/// What receiving says of a line: tested, slips, locked, high.
 fn summary(line: &Line) -> [u64; 4] {
-    let bytes = line.bytes();
-    Calls::new(1).receive(&bytes).unwrap();
-    let (_, summary) = received(&bytes);
-    std::array::from_fn(|i| word(&summary, i))
+    let (_, [tested, slips, locked, high, ..]) = agreed(&line.bytes());
+    [tested, slips, locked, high]
 }
 
 #[test]
@@ -118,9 +115,9 @@ fn high_is_cleared_at_the_end_of_a_window_with_fewer() {
 
 #[test]
 fn nine_zero_bytes_give_one_local_fault_vector_and_one_slip() {
-    let (vectors, summary) = received(&[0; 9]);
+    let (vectors, words) = agreed(&[0; 9]);
     assert_eq!(vectors, LOCAL_FAULT);
-    assert_eq!([0, 1, 2, 3, 4].map(|i| word(&summary, i)), [1, 1, 0, 0, 1]);
+    assert_eq!(words, [1, 1, 0, 0, 1, 1, 0, 0, 0]);
 }
 
 /// Why demand 3 stops at three: payload bits 6, 7, 10 and 11 of one block come back 58 bits later, in the type byte of the next, and
@@ -160,16 +157,12 @@ fn lock_is_found_from_each_of_the_66_positions() {
     }
 }
 
-fn start() -> Vector {
-    vector(&std::array::from_fn(|i| if i == 0 { Control(0xfb) } else { Data(0x55) }))
-}
-
 /// "Errors we have already seen made": after E, a Start begins no frame at once; Terminate is judged by the block after it.
 #[test]
 fn a_start_after_an_error_begins_no_frame() {
     let mut list = lists::idle().repeat(64);
     list.extend(ERROR);
-    list.extend(start());
+    list.extend(lists::start());
     list.extend(lists::idle().repeat(2));
     let (line, summary) = sent(&list, 0);
     assert_eq!(word(&summary, 2), 2);
@@ -179,9 +172,8 @@ fn a_start_after_an_error_begins_no_frame() {
 
 #[test]
 fn terminate_is_accepted_where_a_start_or_control_block_follows() {
-    let start = start();
-    let end = vector(&std::array::from_fn(|i| if i == 0 { Control(0xfd) } else { Control(0x07) }));
-    let data = vector(&[Data(0x11); 8]);
+    let (start, end) = (lists::start(), lists::end());
+    let data = vector(&[Character::Data(0x11); 8]);
     for (next, taken) in [(lists::idle(), true), (start, true), (data, false), (end, false), (ERROR, false)] {
         let mut list = lists::idle().repeat(64);
         for vector in [start, end, next, lists::idle()] {

@@ -3,7 +3,7 @@ use crate::calls::{Calls, Outcome};
 use crate::lines::{self, block, Line};
 use crate::lists;
 use crate::random::Random;
-use crate::reference::block::{encode, width, Block, Format, Kind, FORMATS};
+use crate::reference::block::{encode, kind, put, width, Block, Format, Kind, FORMATS};
 use crate::reference::vector::Vector;
 
 const KINDS: [Kind; 5] = [Kind::D, Kind::C, Kind::S, Kind::T, Kind::E];
@@ -85,13 +85,9 @@ pub fn codes(calls: &mut Calls) -> Outcome {
         let mut at = 8;
         for field in &format.fields {
             let mut blocks = vec![lines::idle(); 64];
-            for value in 0..1 << width(*field) {
-                let good = lists::of_format(format, &mut calls.random);
-                let mut tested = encode(&good).unwrap();
-                unused(format, &mut tested, &mut calls.random);
-                for i in 0..width(*field) {
-                    tested.payload[at + i] = (value >> i) & 1 == 1;
-                }
+            for value in 0..1u32 << width(*field) {
+                let mut tested = good(format, &mut calls.random);
+                put(&mut tested.payload, at, width(*field), value as u8);
                 blocks.push(of_kind(calls.random.pick(&KINDS), &mut calls.random));
                 blocks.push(tested);
             }
@@ -101,6 +97,17 @@ pub fn codes(calls: &mut Calls) -> Outcome {
         }
     }
     Ok(())
+}
+
+/// A block of a format that is not bad, its unused bits random.
+pub fn good(format: &Format, random: &mut Random) -> Block {
+    loop {
+        let mut block = encode(&lists::of_format(format, random)).unwrap();
+        unused(format, &mut block, random);
+        if kind(&block) != Kind::E {
+            return block;
+        }
+    }
 }
 
 /// Random bits where the format has none of its own.

@@ -2,6 +2,7 @@
 use crate::calls::{Calls, Outcome};
 use crate::lists::list;
 use crate::random::Random;
+use crate::reference::{receiving, sending};
 
 /// Lengths around one that is wanted: one short (where it can be), exact, one more, and more.
 fn around(wanted: usize) -> Vec<usize> {
@@ -44,7 +45,7 @@ fn sending(calls: &mut Calls) -> Outcome {
 /// All rooms and summaries of a short list, and some of a long one.
 fn send_around(calls: &mut Calls, vectors: &[u8], start: u64) -> Outcome {
     for room in around(vectors.len() / 40 * 33) {
-        for summary in around(24) {
+        for summary in around(sending::SUMMARY_BYTES) {
             if vectors.len() < 1_000 || calls.random.once_in(12) {
                 calls.send_into(vectors, start, room, summary)?;
             }
@@ -74,7 +75,7 @@ fn receiving(calls: &mut Calls) -> Outcome {
     for length in [0, 1, 8, 9, 16, 17, 33, 66, 528, 824_999, 825_000, 825_001, 900_000] {
         let line = calls.random.bytes(length);
         for room in around(8 * length / 66 * 10) {
-            for summary in around(40) {
+            for summary in around(receiving::SUMMARY_BYTES) {
                 if length < 1_000 || calls.random.once_in(6) {
                     calls.receive_into(&line, room, summary)?;
                 }

@@ -111,7 +111,7 @@ fn sent(letter: char, character: Character) -> Option<u8> {
 }
 
 /// The character that a field's value stands for, where there is one.
-fn received(letter: char, value: u8) -> Option<Character> {
+pub fn received(letter: char, value: u8) -> Option<Character> {
     match letter {
         'D' => Some(Data(value)),
         'C' => first(&CODES, value).map(Control),
@@ -127,7 +127,8 @@ fn number(payload: &[bool; 64], at: usize, count: usize) -> u8 {
     (0..count).map(|i| (payload[at + i] as u8) << i).sum()
 }
 
-fn put(payload: &mut [bool; 64], at: usize, count: usize, value: u8) {
+/// Puts a number into `count` bits of a payload from bit `at`.
+pub fn put(payload: &mut [bool; 64], at: usize, count: usize, value: u8) {
     for i in 0..count {
         payload[at + i] = (value >> i) & 1 == 1;
     }

@@ -1,29 +1,35 @@
 //! Receiving a line.
 use super::block::{decode, kind, Block, Kind};
 use super::diagrams::{receive as step, ErrorRate, Lock, State};
+use super::fault::{fault, Fault, FAULTS};
 use super::scrambler::Scrambler;
 use super::vector::{Vector, ERROR, LOCAL_FAULT};
 use super::{refused, Refusal};
 
 pub const MOST_LINE_BYTES: usize = 825_000;
-pub const SUMMARY_BYTES: usize = 40;
+pub const SUMMARY_BYTES: usize = 72;
 
 pub struct Received {
+    /// The tested blocks, descrambled.
+    pub blocks: Vec<Block>,
     pub vectors: Vec<u8>,
-    pub tested: u64,
     pub slips: u64,
     pub locked: bool,
     pub high: bool,
 }
 
 impl Received {
-    /// The summary as it crosses the C boundary; the last word is the number of vectors.
+    /// "Receiving counts the four reasons over all blocks tested."
+    pub fn faults(&self) -> [u64; 4] {
+        let found: Vec<Fault> = self.blocks.iter().filter_map(fault).collect();
+        FAULTS.map(|reason| found.iter().filter(|fault| **fault == reason).count() as u64)
+    }
+
+    /// The summary as it crosses the C boundary; word 4 is the number of vectors.
     pub fn summary(&self) -> Vec<u8> {
-        let vectors = self.vectors.len() as u64 / 10;
-        [self.tested, self.slips, self.locked as u64, self.high as u64, vectors]
-            .iter()
-            .flat_map(|word| word.to_le_bytes())
-            .collect()
+        let (tested, vectors) = (self.blocks.len() as u64, self.vectors.len() as u64 / 10);
+        let words = [tested, self.slips, self.locked as u64, self.high as u64, vectors];
+        words.into_iter().chain(self.faults()).flat_map(u64::to_le_bytes).collect()
     }
 }
 
@@ -75,7 +81,9 @@ fn receive_all(line: &[u8]) -> Received {
         block.payload = scrambler.descramble(&block.payload);
         tested.push(Tested { block, up: lock.locked && !rate.high });
     }
-    Received { vectors: answers(&tested), tested: tested.len() as u64, slips, locked: lock.locked, high: rate.high }
+    let vectors = answers(&tested);
+    let blocks = tested.into_iter().map(|tested| tested.block).collect();
+    Received { blocks, vectors, slips, locked: lock.locked, high: rate.high }
 }
 
 fn block_at(line: &[u8], at: usize) -> Block {

@@ -146,7 +146,7 @@ row-sound r h = every-at (λ f. all (sound f)) formats noFormat r all-sound h
 pub row-none : (r : ℕ) → 16 ≤ r → row r ≡ noFormat
 row-none r h = List·getD-eq-default formats noFormat h
 
-by-index : (fs : List Format) (y : ℕ) → byType fs y ≡ getD fs (indexOf fs y) noFormat
+pub by-index : (fs : List Format) (y : ℕ) → byType fs y ≡ getD fs (indexOf fs y) noFormat
 by-index [] y = refl
 by-index (f ∷ fs) y = go (eqb (f .type) y) (by-index fs y)
   where

@@ -13,7 +13,7 @@ use Rattle.bits.specs.Bits.{bit}
 use Rattle.bits.proofs.Laws.{bit-mod, bit-shr}
 use Rattle.block.specs.declared.Kind.{Kind}
 use Rattle.block.specs.declared.Kind.the-variants.{D, C, S, T as T′, E}
-use Rattle.block.specs.Block.{Slot, Control, Calm, Data, Set, Start, Terminate, Format, noFormat, dataBlock, controlBlocks, octetOf, controlBit, octetAt, flagAt, flagOf, laneOf, byType, formatOf, vectorOf, valid, allBelow, errorVector, kindBy, decodedBy, kindOf, decoded}
+use Rattle.block.specs.Block.{Slot, Control, Calm, Data, Set, Start, Terminate, Format, noFormat, dataBlock, controlBlocks, octetOf, controlBit, octetAt, flagAt, flagOf, laneOf, byType, formatOf, vectorOf, valid, allBelow, errorVector, kindBy, decodedBy, kindOf, decoded, isError}
 use Rattle.block.specs.Rows.{width, fieldAt, placeAt, SameFlags}
 use Rattle.block.proofs.Tests.{both-left, both-right, all, eight, is-true, by-test}
 use Rattle.block.proofs.Formats.{octet-at, flag-at, flag-le, flags-lt, blind, sound, all-sound, sound-has, sound-width, sound-place, of-type, of-format}
@@ -85,13 +85,6 @@ module _ (h x : ℕ) where
 
 -- ---- kinds
 
-abbrev pub isError : Kind → Bool
-isError D = false
-isError C = false
-isError S = false
-isError T′ = false
-isError E = true
-
 abbrev isData : Kind → Bool
 isData D = true
 isData C = false
@@ -107,13 +100,12 @@ decoded-error h x =
     (λ f t. decided (λ k v. k ≡ E → v ≡ errorVector) f x (λ e q. absurd (subst (λ (k : Kind). T (not (isError k))) q t)) (λ e q. refl))
     (λ q. refl) h x
 
--- kind D is header 2
-pub data-kind : (x : ℕ) → kindOf 2 x ≡ D
-unfolding kindOf
-data-kind x =
-    when-valid dataBlock x
-    (lit< tt, (mod-lt _ (lit< tt), (mod-lt _ (lit< tt), (mod-lt _ (lit< tt), (mod-lt _ (lit< tt), (lit< tt, (mod-lt _ (lit< tt), (mod-lt _ (lit< tt), (mod-lt _ (lit< tt), (mod-lt _ (lit< tt), tt)))))))))) .0
+-- eight data octets are bytes
+pub data-below : (x : ℕ) → Below 256 (vectorOf dataBlock x)
+data-below x =
+    (lit< tt, (mod-lt _ (lit< tt), (mod-lt _ (lit< tt), (mod-lt _ (lit< tt), (mod-lt _ (lit< tt), (lit< tt, (mod-lt _ (lit< tt), (mod-lt _ (lit< tt), (mod-lt _ (lit< tt), (mod-lt _ (lit< tt), tt))))))))))
 
+-- kind D is header 2
 pub kind-data : (h x : ℕ) → kindOf h x ≡ D → h ≡ 2
 unfolding kindOf
 kind-data h x = go (eqb h 2) refl (eqb h 1)

@@ -13,11 +13,11 @@ use lib.Pow.{pow-mono, pow-add}
 use borrow.Author.Tests.{eqb-true}
 use Rattle.block.specs.declared.Kind.{Kind}
 use Rattle.block.specs.declared.Kind.the-variants.{E}
-use Rattle.block.specs.Block.{Slot, Control, Calm, Data, Set, Start, Terminate, Field, Format, noFormat, controls, sets, without, codeIn, codeOf, octetOf, controlBit, codeFor, flagOf, laneOf, sentCode, packed, carries, payloadOf, block, none, carrierBy, carrier, octetAt, flagAt, formatOf, vectorOf, kindBy, decodedBy, kindOf, decoded}
+use Rattle.block.specs.Block.{Slot, Control, Calm, Data, Set, Start, Terminate, Field, Format, noFormat, controls, sets, without, codeIn, codeOf, octetOf, controlBit, codeFor, flagOf, laneOf, sentCode, packed, carries, payloadOf, block, none, carrierBy, carrier, octetAt, flagAt, formatOf, vectorOf, kindBy, decodedBy, kindOf, decoded, isError}
 use Rattle.block.specs.Rows.{width, bitsOf, formats, row, rowOf, formatRow, SameFlags}
 use Rattle.block.proofs.Tests.{both-left, both-right, or-right, all, every, every-at, each, at, is-true, by-test}
 use Rattle.block.proofs.Formats.{has, roomy, sound, sound-roomy, sound-bits, sound-type, sound-has, row-sound, row-format}
-use Rattle.block.proofs.Reading.{Below, when-valid, isError}
+use Rattle.block.proofs.Reading.{Below, when-valid}
 
 -- ---- a code that is valid fits the bits of its slot
 

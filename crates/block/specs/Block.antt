@@ -2,13 +2,17 @@
 -- A vector is a list of ten bytes. A header is the number of its two bits, block bit 0 the lower: 2 data ("0 then 1"), 1 control ("1 then 0").
 -- A payload is a number below 2 ^ 64, "lowest bit of each field first".
 use mathlib.Core.List.{List, [], _∷_, _++_}
-use mathlib.Core.Bool.{Bool, true, cond, not, _&&_}
+use mathlib.Core.Bool.{Bool, true, false, cond, not, _&&_, _||_}
 use Prim.Native.Nat.{ℕ, zero, suc, _+_, _-_, _*_, _/_, _%_, _^_}
 use lib.Dec.{eqb, ltb}
 use lib.ListN.{length, getD}
 use Rattle.refusals.specs.First.{Check, check, checkAt, first, byVerdict}
 use Rattle.block.specs.declared.Kind.{Kind}
 use Rattle.block.specs.declared.Kind.the-variants.{D, C, S, T, E}
+use Rattle.block.specs.declared.Reason.{Reason}
+use Rattle.block.specs.declared.Reason.the-variants.{Header, BlockType, ControlCode, SetCode}
+use Rattle.block.specs.declared.Class.{Class}
+use Rattle.block.specs.declared.Class.the-variants as Class
 
 -- "A word is five bytes: a control byte .., then lanes 0 to 3", here with the lanes as one number, lane 0 lowest. "A vector is two words".
 abbrev pub word : ℕ → ℕ → List ℕ
@@ -213,6 +217,66 @@ kindOf h x = kindBy (formatOf h x) x
 
 unfoldable pub decoded : ℕ → ℕ → List ℕ
 decoded h x = decodedBy (formatOf h x) x
+
+-- kind E
+abbrev pub isError : Kind → Bool
+isError D = false
+isError C = false
+isError S = false
+isError T = false
+isError E = true
+
+-- ---- why a received block is bad: document 02, 1/13
+
+-- some element of a list passes a test
+abbrev pub some : {A : Type 0} → (A → Bool) → List A → Bool
+some test [] = false
+some test (a ∷ l) = test a || some test l
+
+-- some character of the block says that it is not valid: 256 a control code, 512 an ordered set code
+abbrev pub says : ℕ → Format → ℕ → Bool
+says n f x = some (eqb n) (vectorOf f x)
+
+-- the class of a block that is not bad, from the kind of its format; what has no format has no type
+abbrev pub good : Kind → Class
+good D = Class.D
+good C = Class.C
+good S = Class.S
+good T = Class.T
+good E = Class.Bad BlockType
+
+-- by the codes of its characters; "code 1e in a block of type 1e is a control code fault", for the eight characters of that type are Calm
+abbrev pub classBy : Format → ℕ → Class
+classBy f x = cond (says 256 f x) (Class.Bad ControlCode) (cond (says 512 f x) (Class.Bad SetCode) (good (f .kind)))
+
+-- "header, type, control code or ordered set code, the first of these in that order"
+unfoldable pub classOf : ℕ → ℕ → Class
+classOf h x =
+    cond (not (eqb h 1 || eqb h 2)) (Class.Bad Header)
+    (cond (eqb h 1 && not (some (λ f. eqb (f .type) (x % 2 ^ 8)) controlBlocks)) (Class.Bad BlockType)
+    (classBy (formatOf h x) x))
+
+-- the kind of a class: E is bad, for whichever reason
+abbrev pub kindIn : Class → Kind
+kindIn Class.D = D
+kindIn Class.C = C
+kindIn Class.S = S
+kindIn Class.T = T
+kindIn (Class.Bad reason) = E
+
+-- the reasons by number, in their order, and the classes
+abbrev pub reasonNumber : Reason → ℕ
+reasonNumber Header = 0
+reasonNumber BlockType = 1
+reasonNumber ControlCode = 2
+reasonNumber SetCode = 3
+
+abbrev pub classNumber : Class → ℕ
+classNumber Class.D = 0
+classNumber Class.C = 1
+classNumber Class.S = 2
+classNumber Class.T = 3
+classNumber (Class.Bad reason) = 4 + reasonNumber reason
 
 -- ---- a vector to be sent
 

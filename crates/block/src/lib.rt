@@ -6,3 +6,20 @@ pub enum Kind {
     T,
     E,
 }
+
+// Document 02, 1/13: why a received block is bad.
+pub enum Reason {
+    Header,
+    BlockType,
+    ControlCode,
+    SetCode,
+}
+
+// What a received block is: of a kind other than E, or bad with its reason.
+pub enum Class {
+    D,
+    C,
+    S,
+    T,
+    Bad(Reason),
+}

@@ -8,7 +8,7 @@ use Prim.Native.Nat.{ℕ, zero, suc, _<_}
 use native.Mathlib.Omega.{arith}
 use lib.ListN.{length, getD}
 use Rattle.line.specs.declared.Block.{Block}
-use Rattle.block.specs.Block.{kindOf, decoded, errorVector}
+use Rattle.block.specs.Block.{kindOf, decoded, errorVector, kindIn}
 use Rattle.block.specs.declared.Kind.{Kind}
 use Rattle.block.specs.declared.Kind.the-variants.{D, C, S, T, E}
 use Rattle.diagrams.specs.Diagram.{afterIdle, afterData, afterError, diagramOf}
@@ -18,6 +18,7 @@ use Rattle.scrambler.specs.Scrambler.{descrambledAll}
 use Rattle.receiving.specs.Machine.{Tested, linkOf, testedOf}
 use Rattle.receiving.specs.Receive.{ends, stateOf, answerIn, judge, answers}
 use Rattle.receiving.specs.declared.Link.{Link}
+use Rattle.receiving.proofs.Reasons.{kind-tested}
 use Rattle.demands.proofs.Runs.{testedAll}
 use Rattle.damage.proofs.Blocks.{payloads}
 
@@ -93,20 +94,20 @@ module _ (v : List ℕ) where
 
 -- the answer for block k of those that were tested
 pub answer-at : (s : State) (ts : List Tested) (z : Tested) (k : ℕ) → k < length ts → getD ts k z .on ≡ true
-    → ErrorOr (getD ts k z .kind) (getD ts k z .vector) (getD (answers s ts) k [])
+    → ErrorOr (kindIn (getD ts k z .class)) (getD ts k z .vector) (getD (answers s ts) k [])
 unfolding answers judge stateOf
 answer-at s [] z k l o = absurd (omega arith)
-answer-at s (t ∷ ts) z zero l o = rw o (step (t .vector) s (t .kind) (ends ts))
+answer-at s (t ∷ ts) z zero l o = rw o (step (t .vector) s (kindIn (t .class)) (ends ts))
 answer-at s (t ∷ ts) z (suc k) l o = answer-at (stateOf s t (ends ts)) ts z k (omega arith) o
 
 -- a tested block has the kind and the vector of a block with this header and payload
 abbrev pub Read : (header payload : ℕ) → Tested → Type 0
-Read header payload t = (t .kind ≡ kindOf header payload) × (t .vector ≡ decoded header payload)
+Read header payload t = (kindIn (t .class) ≡ kindOf header payload) × (t .vector ≡ decoded header payload)
 
 -- block k of a line is tested with its header and its descrambled payload
 pub tested-at : (l : Link) (bs : List Block) (b : Block) (z : Tested) (k : ℕ) → k < length bs
     → Read (getD bs k b .header) (getD (descrambledAll (payloads bs) (l .history)) k 0) (getD (testedAll l bs) k z)
 unfolding testedAll testedOf linkOf descrambledAll
 tested-at l [] b z k m = absurd (omega arith)
-tested-at l (c ∷ bs) b z zero m = (refl, refl)
+tested-at l (c ∷ bs) b z zero m = (kind-tested l (c .header) (c .payload), refl)
 tested-at l (c ∷ bs) b z (suc k) m = tested-at (linkOf l (c .header) (c .payload)) bs b z k (omega arith)

@@ -18,6 +18,8 @@ use Rattle.line.specs.Word.{word}
 use Rattle.block.specs.Block.{kindOf, decoded, laneOf}
 use Rattle.block.specs.declared.Kind.{Kind}
 use Rattle.block.specs.declared.Kind.the-variants.{E}
+use Rattle.block.specs.declared.Reason.the-variants.{BlockType}
+use Rattle.block.specs.declared.Class.the-variants.{Bad}
 use Rattle.block.proofs.Tests.{all}
 use Rattle.block.proofs.Near.{apart, four-apart}
 use Rattle.diagrams.specs.declared.State.the-variants.{Init}
@@ -53,7 +55,7 @@ on-line h (b ∷ bs) z (suc k) l = on-line _ bs z k (omega arith)
 
 -- no block
 abbrev untested : Tested
-untested = record { on = false; slipped = false; kind = E; vector = [] }
+untested = record { on = false; slipped = false; class = Bad BlockType; vector = [] }
 
 -- ---- blocks that were sent, with at most `most` flips on their line, where the types and the codes are more than `most` bits apart
 

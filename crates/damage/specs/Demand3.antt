@@ -4,7 +4,6 @@
 -- differs exactly when an odd number of flipped payload bits stand 0, 39 or 58 payload bits before it."
 use Prim.Native.Nat.{ℕ, _+_, _*_, _/_, _%_, _≤_, _<_}
 use mathlib.Core.Path.{_≡_}
-use mathlib.Core.Bool.{true, false}
 use mathlib.Core.List.{List, []}
 use mathlib.Core.Logic.{_≢_, _↔_, _⊎_}
 use lib.ListN.{length, getD, take}

@@ -1,20 +1,24 @@
 -- What decoding answers, from the octets of a row: the short paths and the general one.
-use mathlib.Core.Path.{_≡_, refl, _∙_, ap, ap₂, subst, sym}
-use mathlib.Core.Bool.{Bool, true, false, cond}
+use mathlib.Core.Path.{_≡_, refl, _∙_, ap, ap₂, subst, subst₂, sym}
+use mathlib.Core.Bool.{Bool, true, false, cond, false≢true}
+use mathlib.Core.Logic.{inl, inr}
 use mathlib.Core.List.{List, [], _∷_, _++_}
 use Prim.Native.Nat.{ℕ, suc, zero-le, _+_, _/_, _%_, _^_, _<_, _≤_}
 use native.Mathlib.Omega.{arith}
-use lib.Dec.{eqb}
+use lib.Dec.{eqb, lit<}
 use lib.ListN.{length}
-use borrow.Author.Tests.{ne-eqb}
-use Rattle.block.specs.declared.Kind.{Kind}
-use Rattle.block.specs.declared.Kind.the-variants.{D, C, E}
-use Rattle.block.specs.Block.{word, twoWords, Format, noFormat, dataBlock, flagsAt, byType, controlBlocks, formatOf, vectorOf, errorVector, kindBy, decodedBy, kindOf, decoded}
+use borrow.Author.Tests.{eq-eqb, ne-eqb}
+use Rattle.block.specs.declared.Reason.the-variants.{Header, BlockType, ControlCode, SetCode}
+use Rattle.block.specs.declared.Class.{Class}
+use Rattle.block.specs.declared.Class.the-variants as Class
+use Rattle.block.specs.Block.{word, twoWords, Format, noFormat, dataBlock, flagsAt, byType, controlBlocks, formatOf, vectorOf, errorVector, decodedBy, decoded, good, classBy, classOf}
 use Rattle.block.specs.Rows.{row, rowOf, indexOf}
-use Rattle.block.proofs.Formats.{flags-lt, row-format, row-none}
-use Rattle.block.proofs.Reading.{Below, when-valid, when-not, data-kind, good-vector}
+use Rattle.block.proofs.Formats.{flags-lt, row-sound, row-format, row-none}
+use Rattle.block.proofs.Reading.{Below, when-valid, when-not, data-below}
+use Rattle.block.proofs.Telling.{Tells, character-tells, vector-tells}
+use Rattle.block.proofs.Classes.{None, none-below, class-good, class-control, class-set, class-data, class-row, class-no-type, class-no-header}
 use Rattle.block.proofs.Sending.{ten}
-use Rattle.decoding.specs.Parts.{octetBy, lanesBy, overBy}
+use Rattle.decoding.specs.Parts.{octetBy, lanesBy, overBy, badBy}
 
 -- ---- the general row
 
@@ -47,18 +51,18 @@ lanes-back control a b c d p q s t = go control a b c d (omega arith) (omega ari
     go control a b c d p q s t = λ i. control ∷ p i ∷ q i ∷ s i ∷ t i ∷ []
 
 -- the answer of a row whose eight characters are valid
-pub row-valid : (r x c0 d0 c1 d1 m n : ℕ) (k : Kind)
+pub row-valid : (r x c0 d0 c1 d1 m n : ℕ) (c : Class)
     → d0 ≡ lanesBy (octetBy r x 0) (octetBy r x 1) (octetBy r x 2) (octetBy r x 3)
     → d1 ≡ lanesBy (octetBy r x 4) (octetBy r x 5) (octetBy r x 6) (octetBy r x 7)
     → m ≡ overBy (octetBy r x 0) (octetBy r x 1) (octetBy r x 2) (octetBy r x 3)
     → n ≡ overBy (octetBy r x 4) (octetBy r x 5) (octetBy r x 6) (octetBy r x 7)
-    → m + n ≡ 0 → c0 ≡ flagsAt (row r .fields) 0 → c1 ≡ flagsAt (row r .fields) 4 → k ≡ row r .kind
-    → (k ≡ kindBy (row r) x) × (twoWords c0 d0 c1 d1 ≡ decodedBy (row r) x)
+    → m + n ≡ 0 → c0 ≡ flagsAt (row r .fields) 0 → c1 ≡ flagsAt (row r .fields) 4 → c ≡ good (row r .kind)
+    → (c ≡ classBy (row r) x) × (twoWords c0 d0 c1 d1 ≡ decodedBy (row r) x)
 unfolding Small
-row-valid r x c0 d0 c1 d1 m n k e0 e1 o0 o1 z f0 f1 q =
+row-valid r x c0 d0 c1 d1 m n c e0 e1 o0 o1 z f0 f1 q =
     let p : Small r x = (a .0, a .1, a .2, a .3, b .0, b .1, b .2, b .3) in
     let w = small-below r x p in
-    (q ∙ sym (when-valid (row r) x w .0), words ∙ sym (when-valid (row r) x w .1))
+    (q ∙ sym (class-good (row r) x w), words ∙ sym (when-valid (row r) x w .1))
   where
     a : (octetBy r x 0 < 256) × (octetBy r x 1 < 256) × (octetBy r x 2 < 256) × (octetBy r x 3 < 256)
     a = over-small (octetBy r x 0) (octetBy r x 1) (octetBy r x 2) (octetBy r x 3) (sym o0 ∙ omega arith)
@@ -73,65 +77,127 @@ row-valid r x c0 d0 c1 d1 m n k e0 e1 o0 o1 z f0 f1 q =
         (lanes-back c1 (octetBy r x 4) (octetBy r x 5) (octetBy r x 6) (octetBy r x 7) (b .0) (b .1) (b .2) (b .3))
         ∙ ten f0 refl refl refl refl f1 refl refl refl refl
 
--- and of one of which one is not
-pub row-not : (r x m n : ℕ)
-    → m ≡ overBy (octetBy r x 0) (octetBy r x 1) (octetBy r x 2) (octetBy r x 3)
-    → n ≡ overBy (octetBy r x 4) (octetBy r x 5) (octetBy r x 6) (octetBy r x 7)
-    → (m + n ≡ 0 → ⊥) → (E ≡ kindBy (row r) x) × (errorVector ≡ decodedBy (row r) x)
-unfolding Small
-row-not r x m n o0 o1 z =
-    let w = when-not (row r) x (λ q. z (none (below-small r x q))) in
-    (sym (w .0), sym (w .1))
+-- no octet of four says that a control code is bad
+Silent : (a b c d : ℕ) → Type 0
+Silent a b c d = (eqb 256 a ≡ false) × (eqb 256 b ≡ false) × (eqb 256 c ≡ false) × (eqb 256 d ≡ false)
+
+bad-silent : (a b c d : ℕ) → badBy a b c d ≡ 0 → Silent a b c d
+unfolding Silent
+bad-silent a b c d e = (one a (omega arith), one b (omega arith), one c (omega arith), one d (omega arith))
   where
-    none : Small r x → m + n ≡ 0
-    none s =
-        let a = o0 ∙ small-over (octetBy r x 0) (octetBy r x 1) (octetBy r x 2) (octetBy r x 3) (s .0) (s .1) (s .2) (s .3) in
-        let b = o1 ∙ small-over (octetBy r x 4) (octetBy r x 5) (octetBy r x 6) (octetBy r x 7) (s .4) (s .5) (s .6) (s .7) in
-        omega (arith, a, b)
+    one : (a : ℕ) → a / 256 % 2 ≡ 0 → eqb 256 a ≡ false
+    one a e = ne-eqb 256 a (λ q. omega arith)
+
+silent-bad : (a b c d : ℕ) → Tells a → Tells b → Tells c → Tells d → Silent a b c d → badBy a b c d ≡ 0
+unfolding Silent
+silent-bad a b c d p q u v s = omega (arith, one a p (s .0), one b q (s .1), one c u (s .2), one d v (s .3))
+  where
+    one : (a : ℕ) → Tells a → eqb 256 a ≡ false → a / 256 % 2 ≡ 0
+    one a (inl l) e = omega arith
+    one a (inr (inl q)) e = absurd (false≢true (sym e ∙ eq-eqb 256 a (sym q)))
+    one a (inr (inr q)) e = omega arith
+
+-- of a row of which one character is not valid
+module _ (r x m n p q : ℕ) (inside : r < 16)
+    (o0 : m ≡ overBy (octetBy r x 0) (octetBy r x 1) (octetBy r x 2) (octetBy r x 3))
+    (o1 : n ≡ overBy (octetBy r x 4) (octetBy r x 5) (octetBy r x 6) (octetBy r x 7))
+    (b0 : p ≡ badBy (octetBy r x 0) (octetBy r x 1) (octetBy r x 2) (octetBy r x 3))
+    (b1 : q ≡ badBy (octetBy r x 4) (octetBy r x 5) (octetBy r x 6) (octetBy r x 7))
+    (z : m + n ≡ 0 → ⊥) where
+  not-small : Small r x → ⊥
+  unfolding Small
+  not-small s =
+      let a = o0 ∙ small-over (octetBy r x 0) (octetBy r x 1) (octetBy r x 2) (octetBy r x 3) (s .0) (s .1) (s .2) (s .3) in
+      let b = o1 ∙ small-over (octetBy r x 4) (octetBy r x 5) (octetBy r x 6) (octetBy r x 7) (s .4) (s .5) (s .6) (s .7) in
+      z (omega (arith, a, b))
+
+  error-is : errorVector ≡ decodedBy (row r) x
+  error-is = sym (when-not (row r) x (λ w. not-small (below-small r x w)) .1)
+
+  tells : (i : ℕ) → i < 8 → Tells (octetBy r x i)
+  tells = character-tells (row r) (row-sound r inside) x
+
+  -- none says that its control code is bad where none is counted
+  silent : p + q ≡ 0 → None 256 (vectorOf (row r) x)
+  unfolding Silent
+  silent e =
+      let a = bad-silent (octetBy r x 0) (octetBy r x 1) (octetBy r x 2) (octetBy r x 3) (sym b0 ∙ omega arith) in
+      let b = bad-silent (octetBy r x 4) (octetBy r x 5) (octetBy r x 6) (octetBy r x 7) (sym b1 ∙ omega arith) in
+      (flag 0, (a .0, (a .1, (a .2, (a .3, (flag 4, (b .0, (b .1, (b .2, (b .3, tt))))))))))
+    where
+      flag : (i : ℕ) → eqb 256 (flagsAt (row r .fields) i) ≡ false
+      flag i = ne-eqb 256 (flagsAt (row r .fields) i) (λ e. omega (arith, flags-lt (row r .fields) i))
+
+  counted : None 256 (vectorOf (row r) x) → p + q ≡ 0
+  unfolding Silent
+  counted w =
+      let a =
+      b0 ∙ silent-bad (octetBy r x 0) (octetBy r x 1) (octetBy r x 2) (octetBy r x 3) (tells 0 (lit< tt)) (tells 1 (lit< tt)) (tells 2 (lit< tt)) (tells 3 (lit< tt)) (w .1 .0, w .1 .1 .0, w .1 .1 .1 .0, w .1 .1 .1 .1 .0) in
+      let b =
+      b1 ∙ silent-bad (octetBy r x 4) (octetBy r x 5) (octetBy r x 6) (octetBy r x 7) (tells 4 (lit< tt)) (tells 5 (lit< tt)) (tells 6 (lit< tt)) (tells 7 (lit< tt)) (w .1 .1 .1 .1 .1 .1 .0, w .1 .1 .1 .1 .1 .1 .1 .0, w .1 .1 .1 .1 .1 .1 .1 .1 .0, w .1 .1 .1 .1 .1 .1 .1 .1 .1 .0) in
+      omega (arith, a, b)
+
+  pub row-set : p + q ≡ 0 → (Class.Bad SetCode ≡ classBy (row r) x) × (errorVector ≡ decodedBy (row r) x)
+  row-set e = (sym (class-set (row r) x (silent e) not-none), error-is)
+    where
+      not-none : None 512 (vectorOf (row r) x) → ⊥
+      not-none w = not-small (below-small r x (none-below (vectorOf (row r) x) (vector-tells (row r) (row-sound r inside) x) (silent e) w))
+
+  pub row-control : (p + q ≡ 0 → ⊥) → (Class.Bad ControlCode ≡ classBy (row r) x) × (errorVector ≡ decodedBy (row r) x)
+  row-control e = (sym (class-control (row r) x (λ w. e (counted w))), error-is)
 
 -- ---- a block
 
 -- eight data octets, straight from the payload
-pub data-answer : (h x : ℕ) → h ≡ 2 → (D ≡ kindOf h x) × (twoWords 0 (x % 4294967296) 0 (x / 4294967296) ≡ decoded h x)
-data-answer h x e = subst (λ (h : ℕ). (D ≡ kindOf h x) × (twoWords 0 (x % 4294967296) 0 (x / 4294967296) ≡ decoded h x)) (sym e) (sym (data-kind x), words)
+pub data-answer : (h x : ℕ) → h ≡ 2 → (Class.D ≡ classOf h x) × (twoWords 0 (x % 4294967296) 0 (x / 4294967296) ≡ decoded h x)
+unfolding decoded
+data-answer h x e =
+    subst (λ (h : ℕ). (Class.D ≡ classOf h x) × (twoWords 0 (x % 4294967296) 0 (x / 4294967296) ≡ decoded h x)) (sym e) (sym (class-data x), words)
   where
-    good : kindOf 2 x ≡ E → ⊥
-    good q = never (sym (data-kind x) ∙ q)
-      where
-        never : D ≡ E → ⊥
-        never w = let z : _≡_ {A = ℕ} 0 1 = cc in omega arith
-
     words : twoWords 0 (x % 4294967296) 0 (x / 4294967296) ≡ decoded 2 x
     words =
         ten refl (omega arith) (omega arith) (omega arith) (omega arith) refl (omega arith) (omega arith) (omega arith) (omega arith)
-        ∙ sym (good-vector 2 x good)
+        ∙ sym (when-valid dataBlock x (data-below x) .1)
 
 -- eight idles
-pub idle-answer : (h x : ℕ) → h ≡ 1 → x ≡ 0x1e → (C ≡ kindOf h x) × (twoWords 15 0x07070707 15 0x07070707 ≡ decoded h x)
-unfolding kindOf decoded
+pub idle-answer : (h x : ℕ) → h ≡ 1 → x ≡ 0x1e → (Class.C ≡ classOf h x) × (twoWords 15 0x07070707 15 0x07070707 ≡ decoded h x)
+unfolding classOf decoded
 idle-answer h x e q =
-    (ap₂ (λ (h x : ℕ). kindBy (formatOf h x) x) (sym e) (sym q), ap₂ (λ (h x : ℕ). decodedBy (formatOf h x) x) (sym e) (sym q))
+    subst₂ (λ (h x : ℕ). (Class.C ≡ classOf h x) × (twoWords 15 0x07070707 15 0x07070707 ≡ decoded h x)) (sym e) (sym q) idle
+  where
+    idle : (Class.C ≡ classOf 1 0x1e) × (twoWords 15 0x07070707 15 0x07070707 ≡ decoded 1 0x1e)
+    idle = (refl, refl)
 
 -- a control block by the row of its type
-pub row-answer : (h x r : ℕ) (k : Kind) (v : List ℕ) → h ≡ 1 → r ≡ rowOf (x % 256) → (k ≡ kindBy (row r) x) × (v ≡ decodedBy (row r) x) → (k ≡ kindOf h x) × (v ≡ decoded h x)
-unfolding kindOf decoded
-row-answer h x r k v e q w =
-    let f : row r ≡ formatOf h x = ap row q ∙ row-format 1 x ∙ ap (λ (n : ℕ). formatOf n x) (sym e) in
-    (w .0 ∙ ap (λ (g : Format). kindBy g x) f, w .1 ∙ ap (λ (g : Format). decodedBy g x) f)
+pub row-answer : (h x r : ℕ) (c : Class) (v : List ℕ) → h ≡ 1 → r ≡ rowOf (x % 256) → r < 16
+    → (c ≡ classBy (row r) x) × (v ≡ decodedBy (row r) x) → (c ≡ classOf h x) × (v ≡ decoded h x)
+unfolding decoded
+row-answer h x r c v e q l w =
+    let f : row r ≡ formatOf h x = ap row q ∙ row-format 1 x ∙ ap (λ (n : ℕ). formatOf n x) (sym e) in (
+      w .0
+          ∙ ap (λ (n : ℕ). classBy (row n) x) q
+          ∙ sym (class-row x (subst (λ (n : ℕ). n < 16) q l))
+          ∙ ap (λ (n : ℕ). classOf n x) (sym e),
+      w .1 ∙ ap (λ (g : Format). decodedBy g x) f,
+    )
 
 -- a type that is none, and a header that is neither
-no-format : (h x : ℕ) → formatOf h x ≡ noFormat → (E ≡ kindOf h x) × (errorVector ≡ decoded h x)
-unfolding kindOf decoded
-no-format h x f = (ap (λ (g : Format). kindBy g x) (sym f), ap (λ (g : Format). decodedBy g x) (sym f))
+no-format : (h x : ℕ) → formatOf h x ≡ noFormat → errorVector ≡ decoded h x
+unfolding decoded
+no-format h x f = ap (λ (g : Format). decodedBy g x) (sym f)
 
-pub no-type : (h x r : ℕ) → h ≡ 1 → r ≡ rowOf (x % 256) → 16 ≤ r → (E ≡ kindOf h x) × (errorVector ≡ decoded h x)
-no-type h x r e q l =
-    no-format h x (ap (λ (n : ℕ). formatOf n x) e ∙ sym (row-format 1 x) ∙ ap row (sym q) ∙ row-none r l)
+pub no-type : (h x r : ℕ) → h ≡ 1 → r ≡ rowOf (x % 256) → 16 ≤ r → (Class.Bad BlockType ≡ classOf h x) × (errorVector ≡ decoded h x)
+no-type h x r e q l = (
+  sym (class-no-type x (subst (λ (n : ℕ). 16 ≤ n) q l)) ∙ ap (λ (n : ℕ). classOf n x) (sym e),
+  no-format h x (ap (λ (n : ℕ). formatOf n x) e ∙ sym (row-format 1 x) ∙ ap row (sym q) ∙ row-none r l),
+)
 
-pub no-header : (h x : ℕ) → (h ≡ 2 → ⊥) → (h ≡ 1 → ⊥) → (E ≡ kindOf h x) × (errorVector ≡ decoded h x)
-no-header h x n m =
-    no-format h x
-    (ap₂ (λ (a b : Bool). cond a dataBlock (cond b (byType controlBlocks (x % 2 ^ 8)) noFormat)) (ne-eqb h 2 n) (ne-eqb h 1 m))
+pub no-header : (h x : ℕ) → (h ≡ 2 → ⊥) → (h ≡ 1 → ⊥) → (Class.Bad Header ≡ classOf h x) × (errorVector ≡ decoded h x)
+no-header h x n m = (
+  sym (class-no-header h x n m),
+  no-format h x
+      (ap₂ (λ (a b : Bool). cond a dataBlock (cond b (byType controlBlocks (x % 2 ^ 8)) noFormat)) (ne-eqb h 2 n) (ne-eqb h 1 m)),
+)
 
 -- a row's number
 index-le : (fs : List Format) (y : ℕ) → indexOf fs y ≤ length fs

@@ -6,7 +6,8 @@ use native.Mathlib.Omega.{arith}
 use lib.ListN.{getD}
 use lib.Pow.{shr-shr}
 use Rattle.block.specs.declared.Kind.{Kind}
-use Rattle.block.specs.Block.{kindOf, decoded}
+use Rattle.block.specs.declared.Class.{Class}
+use Rattle.block.specs.Block.{decoded, classOf, kindIn}
 use Rattle.decoding.specs.declared.Vector.{Vector}
 use Rattle.decoding.specs.declared.Decoded.{Decoded}
 use Rattle.decoding.specs.Vector.{vectorBytes}
@@ -45,11 +46,11 @@ vector-same v w a b c d e =
     high = lanes-same (v .d1) (w .d1) b d (byte 6) (byte 7) (byte 8) (byte 9)
 
 pub decode-unique : (h x : ℕ) (r r′ : Decoded) → r .vector .d0 < 2 ^ 32 → r .vector .d1 < 2 ^ 32 → r′ .vector .d0 < 2 ^ 32 → r′ .vector .d1 < 2 ^ 32
-    → (r .kind ≡ kindOf h x) × (vectorBytes (r .vector) ≡ decoded h x) → (r′ .kind ≡ kindOf h x) × (vectorBytes (r′ .vector) ≡ decoded h x) → r ≡ r′
-decode-unique h x r r′ a b c d p q = λ i. record { kind = kind i; vector = vector i }
+    → (r .class ≡ classOf h x) × (vectorBytes (r .vector) ≡ decoded h x) → (r′ .class ≡ classOf h x) × (vectorBytes (r′ .vector) ≡ decoded h x) → r ≡ r′
+decode-unique h x r r′ a b c d p q = λ i. record { class = class i; vector = vector i }
   where
-    kind : r .kind ≡ r′ .kind
-    kind = p .0 ∙ sym (q .0)
+    class : r .class ≡ r′ .class
+    class = p .0 ∙ sym (q .0)
 
     vector : r .vector ≡ r′ .vector
     vector = vector-same (r .vector) (r′ .vector) a b c d (p .1 ∙ sym (q .1))
@@ -57,8 +58,11 @@ decode-unique h x r r′ a b c d p q = λ i. record { kind = kind i; vector = ve
 pub bytes-of-unique : (v : Vector) (r r′ : List ℕ) → r ≡ vectorBytes v → r′ ≡ vectorBytes v → r ≡ r′
 bytes-of-unique v r r′ p q = p ∙ sym q
 
-pub decode-block-unique : (h x : ℕ) (k k′ : Kind) (out out′ : List ℕ) → (k ≡ kindOf h x) × (out ≡ decoded h x) → (k′ ≡ kindOf h x) × (out′ ≡ decoded h x) → (k ≡ k′) × (out ≡ out′)
-decode-block-unique h x k k′ out out′ p q = (p .0 ∙ sym (q .0), p .1 ∙ sym (q .1))
+pub decode-block-unique : (h x : ℕ) (c c′ : Class) (out out′ : List ℕ) → (c ≡ classOf h x) × (out ≡ decoded h x) → (c′ ≡ classOf h x) × (out′ ≡ decoded h x) → (c ≡ c′) × (out ≡ out′)
+decode-block-unique h x c c′ out out′ p q = (p .0 ∙ sym (q .0), p .1 ∙ sym (q .1))
 
-pub classify-unique : (h x : ℕ) (k k′ : Kind) → k ≡ kindOf h x → k′ ≡ kindOf h x → k ≡ k′
-classify-unique h x k k′ p q = p ∙ sym q
+pub kind-in-unique : (c : Class) (k k′ : Kind) → k ≡ kindIn c → k′ ≡ kindIn c → k ≡ k′
+kind-in-unique c k k′ p q = p ∙ sym q
+
+pub classify-unique : (h x : ℕ) (c c′ : Class) → c ≡ classOf h x → c′ ≡ classOf h x → c ≡ c′
+classify-unique h x c c′ p q = p ∙ sym q

@@ -1,13 +1,14 @@
-// One received block: its kind and its vector.
+// One received block: its class and its vector.
 ghost use mathlib.Core.Path.{_≡_};
-ghost use mathlib.Core.List.{List};
 ghost use Prim.Native.Nat.{_+_, _<_, _≤_};
-ghost use Rattle.block.specs.Block.{kindOf, decoded, kindBy, decodedBy};
+ghost use Rattle.block.specs.Block.{errorVector, decodedBy, decoded, good, classBy, classOf, kindIn};
 ghost use Rattle.block.specs.Rows.{row};
 ghost use Rattle.tables.specs.Tables.{types, tables};
 ghost use Rattle.decoding.specs.Vector.{vectorBytes};
-ghost use Rattle.decoding.specs.Parts.{octetBy, lanesBy, overBy};
+ghost use Rattle.decoding.specs.Parts.{octetBy, lanesBy, overBy, badBy};
+use block::Class;
 use block::Kind;
+use block::Reason;
 
 // A vector: two words, each a control byte and four lanes, lane 0 lowest.
 pub struct Vector {
@@ -17,16 +18,59 @@ pub struct Vector {
     pub d1: u32,
 }
 
-// What a block decodes to: its kind, and its vector, the error vector for kind E.
+// What a block decodes to: its class, and its vector, the error vector where it is bad.
 pub struct Decoded {
-    pub kind: Kind,
+    pub class: Class,
     pub vector: Vector,
 }
 
-// Four characters: their octets as lanes, and what of them does not fit a byte, 0 where all are valid.
+// The kind of a class.
+pub fn kind_in(c: Class) -> Kind
+    ensures { λ r. ⌜ r ≡ kindIn c ⌝ }
+{
+    match c {
+        Class::D => Kind::D,
+        Class::C => Kind::C,
+        Class::S => Kind::S,
+        Class::T => Kind::T,
+        Class::Bad(_) => Kind::E,
+    }
+}
+
+// The class of a block of this kind that is not bad.
+fn good_class(k: Kind) -> Class
+    ensures { λ r. ⌜ r ≡ good k ⌝ }
+{
+    match k {
+        Kind::D => Class::D,
+        Kind::C => Class::C,
+        Kind::S => Class::S,
+        Kind::T => Class::T,
+        Kind::E => Class::Bad(Reason::BlockType),
+    }
+}
+
+// A bad block.
+fn bad(why: Reason) -> Decoded
+    ensures { λ r. ⌜ (r .class ≡ Class.Bad why) × (vectorBytes (r .vector) ≡ errorVector) ⌝ }
+{
+    Decoded {
+        class: Class::Bad(why),
+        vector: Vector {
+            c0: 15,
+            d0: 0xfefefefe,
+            c1: 15,
+            d1: 0xfefefefe,
+        },
+    }
+}
+
+// Four characters: their octets as lanes, what of them does not fit a byte, 0 where all are valid, and how many of them say that
+// their control code is bad.
 struct Half {
     lanes: u32,
     over: u16,
+    bad: u16,
 }
 
 // The octet of character p of a block of row r, not below 256 where its bits are not valid.
@@ -45,7 +89,7 @@ fn character(t: &[u16; 3170], r: usize, p: usize, x: u64) -> u16
 // Four characters from p on.
 fn four(t: &[u16; 3170], r: usize, p: usize, x: u64) -> Half
     requires { ⌜ (r < 16) × (p + 3 < 8) × (now t ≡ tables) ⌝ }
-    ensures { λ z. ⌜ (z .lanes ≡ lanesBy (octetBy r x p) (octetBy r x (p + 1)) (octetBy r x (p + 2)) (octetBy r x (p + 3))) × (z .over ≡ overBy (octetBy r x p) (octetBy r x (p + 1)) (octetBy r x (p + 2)) (octetBy r x (p + 3))) × (z .over < 1024) ⌝ }
+    ensures { λ z. ⌜ (z .lanes ≡ lanesBy (octetBy r x p) (octetBy r x (p + 1)) (octetBy r x (p + 2)) (octetBy r x (p + 3))) × (z .over ≡ overBy (octetBy r x p) (octetBy r x (p + 1)) (octetBy r x (p + 2)) (octetBy r x (p + 3))) × (z .bad ≡ badBy (octetBy r x p) (octetBy r x (p + 1)) (octetBy r x (p + 2)) (octetBy r x (p + 3))) × (z .over < 1024) × (z .bad ≤ 4) ⌝ }
 {
     let a = character(t, r, p, x);
     let b = character(t, r, p + 1, x);
@@ -57,13 +101,14 @@ fn four(t: &[u16; 3170], r: usize, p: usize, x: u64) -> Half
             + (c % 256) as u32 * 65536
             + (d % 256) as u32 * 16777216,
         over: a / 256 + b / 256 + c / 256 + d / 256,
+        bad: a / 256 % 2 + b / 256 % 2 + c / 256 % 2 + d / 256 % 2,
     }
 }
 
 // A block of row r.
 fn decode_row(t: &[u16; 3170], r: usize, x: u64) -> Decoded
     requires { ⌜ (r < 16) × (now t ≡ tables) ⌝ }
-    ensures { λ z. ⌜ (z .kind ≡ kindBy (row r) x) × (vectorBytes (z .vector) ≡ decodedBy (row r) x) ⌝ }
+    ensures { λ z. ⌜ (z .class ≡ classBy (row r) x) × (vectorBytes (z .vector) ≡ decodedBy (row r) x) ⌝ }
 {
     let a = four(t, r, 0, x);
     let b = four(t, r, 4, x);
@@ -71,7 +116,7 @@ fn decode_row(t: &[u16; 3170], r: usize, x: u64) -> Decoded
         let c0 = (t[tables::LOW + r] % 256) as u8;
         let c1 = (t[tables::HIGH + r] % 256) as u8;
         return Decoded {
-            kind: tables::kind_at(t, r),
+            class: good_class(tables::kind_at(t, r)),
             vector: Vector {
                 c0: c0,
                 d0: a.lanes,
@@ -80,25 +125,20 @@ fn decode_row(t: &[u16; 3170], r: usize, x: u64) -> Decoded
             },
         };
     }
-    Decoded {
-        kind: Kind::E,
-        vector: Vector {
-            c0: 15,
-            d0: 0xfefefefe,
-            c1: 15,
-            d1: 0xfefefefe,
-        },
+    if a.bad + b.bad == 0 {
+        return bad(Reason::SetCode);
     }
+    bad(Reason::ControlCode)
 }
 
 // A block with this header (its two bits as a number, block bit 0 the lower) and payload. The tables are those of the crate tables.
 pub fn decode(t: &[u16; 3170], y: &[u8; 256], header: u64, payload: u64) -> Decoded
     requires { ⌜ (now t ≡ tables) × (now y ≡ types) ⌝ }
-    ensures { λ r. ⌜ (r .kind ≡ kindOf header payload) × (vectorBytes (r .vector) ≡ decoded header payload) ⌝ }
+    ensures { λ r. ⌜ (r .class ≡ classOf header payload) × (vectorBytes (r .vector) ≡ decoded header payload) ⌝ }
 {
     if header == 2 {
         return Decoded {
-            kind: Kind::D,
+            class: Class::D,
             vector: Vector {
                 c0: 0,
                 d0: (payload % 4294967296) as u32,
@@ -111,7 +151,7 @@ pub fn decode(t: &[u16; 3170], y: &[u8; 256], header: u64, payload: u64) -> Deco
         // eight idles
         if payload == 0x1e {
             return Decoded {
-                kind: Kind::C,
+                class: Class::C,
                 vector: Vector {
                     c0: 15,
                     d0: 0x07070707,
@@ -124,16 +164,9 @@ pub fn decode(t: &[u16; 3170], y: &[u8; 256], header: u64, payload: u64) -> Deco
         if r < 16 {
             return decode_row(t, r, payload);
         }
+        return bad(Reason::BlockType);
     }
-    Decoded {
-        kind: Kind::E,
-        vector: Vector {
-            c0: 15,
-            d0: 0xfefefefe,
-            c1: 15,
-            d1: 0xfefefefe,
-        },
-    }
+    bad(Reason::Header)
 }
 
 // The ten bytes of a vector.
@@ -154,21 +187,21 @@ pub fn bytes_of(v: Vector) -> [u8; 10]
     ]
 }
 
-// The kind of a block; its vector, the error vector for kind E, goes into out.
-pub fn decode_block(header: u8, payload: u64, out: &mut [u8; 10]) -> Kind
-    ensures { λ k. ⌜ (k ≡ kindOf header payload) × (now (out .exit) ≡ decoded header payload) ⌝ }
+// The class of a block; its vector, the error vector where it is bad, goes into out.
+pub fn decode_block(header: u8, payload: u64, out: &mut [u8; 10]) -> Class
+    ensures { λ c. ⌜ (c ≡ classOf header payload) × (now (out .exit) ≡ decoded header payload) ⌝ }
 {
     let t = tables::block_tables();
     let y = tables::type_table();
     let d = decode(&t, &y, header as u64, payload);
     let v = d.vector;
     *out = bytes_of(v);
-    d.kind
+    d.class
 }
 
-// The kind of a block.
-pub fn classify(header: u8, payload: u64) -> Kind
-    ensures { λ k. ⌜ k ≡ kindOf header payload ⌝ }
+// The class of a block.
+pub fn classify(header: u8, payload: u64) -> Class
+    ensures { λ c. ⌜ c ≡ classOf header payload ⌝ }
 {
     let mut out = [0u8; 10];
     decode_block(header, payload, &mut out)

@@ -5,7 +5,7 @@ use mathlib.Core.List.{List, [], _∷_, _++_}
 use Prim.Native.Nat.{ℕ}
 use lib.ListN.{length, replicate}
 use borrow.Author.Tests.{not-true}
-use Rattle.block.specs.Block.{vectorKind, localFaultVector}
+use Rattle.block.specs.Block.{vectorKind, localFaultVector, kindIn}
 use Rattle.block.specs.declared.Kind.{Kind}
 use Rattle.block.specs.declared.Kind.the-variants.{D, C, S, T, E}
 use Rattle.diagrams.specs.Diagram.{afterIdle, afterData, afterError, diagramOf, transmitOf, follows}
@@ -114,7 +114,7 @@ abbrev pub Carries : List (List ℕ) → List Tested → Type 0
 Carries [] [] = Unit
 Carries [] (t ∷ ts) = ⊥
 Carries (v ∷ vs) [] = ⊥
-Carries (v ∷ vs) (t ∷ ts) = (t .kind ≡ vectorKind v) × (t .vector ≡ v) × Carries vs ts
+Carries (v ∷ vs) (t ∷ ts) = (kindIn (t .class) ≡ vectorKind v) × (t .vector ≡ v) × Carries vs ts
 
 -- the two halves of a test that passes
 pub and-left : (a b : Bool) → a && b ≡ true → a ≡ true

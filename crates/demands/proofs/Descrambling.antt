@@ -8,10 +8,11 @@ use Rattle.scrambler.specs.Scrambler.{scrambled, historyAfter, descrambled, lin
 use Rattle.scrambler.proofs.Laws.{scrambled-lt, descrambled-scrambled, line-scrambled, lineAfter-forget}
 use Rattle.line.specs.declared.Block.{Block}
 use Rattle.line.specs.Word.{word}
-use Rattle.block.specs.Block.{kindOf, decoded}
+use Rattle.block.specs.Block.{kindOf, decoded, kindIn}
 use Rattle.sending.specs.Send.{scrambledBlock, lineWords}
 use Rattle.receiving.specs.Machine.{Tested, validOf, linkOf, testedOf}
 use Rattle.receiving.specs.declared.Link.{Link}
+use Rattle.receiving.proofs.Reasons.{kind-tested}
 use Rattle.demands.proofs.Line.{AllFit}
 use Rattle.demands.proofs.Runs.{testedAll, valids}
 
@@ -27,13 +28,13 @@ abbrev pub Reads : List Block → List Tested → Type 0
 Reads [] [] = Unit
 Reads [] (t ∷ ts) = ⊥
 Reads (b ∷ bs) [] = ⊥
-Reads (b ∷ bs) (t ∷ ts) = (t .kind ≡ kindOf (b .header) (b .payload)) × (t .vector ≡ decoded (b .header) (b .payload)) × Reads bs ts
+Reads (b ∷ bs) (t ∷ ts) = (kindIn (t .class) ≡ kindOf (b .header) (b .payload)) × (t .vector ≡ decoded (b .header) (b .payload)) × Reads bs ts
 
 -- the tested blocks are those of the line, descrambled
 pub reads : (l : Link) (bs : List Block) → Reads (descrambledBlocks (l .history) bs) (testedAll l bs)
 unfolding descrambledBlocks testedAll testedOf linkOf
 reads l [] = tt
-reads l (b ∷ bs) = (refl, refl, reads (linkOf l (b .header) (b .payload)) bs)
+reads l (b ∷ bs) = (kind-tested l (b .header) (b .payload), refl, reads (linkOf l (b .header) (b .payload)) bs)
 
 -- their payloads are the descrambled payloads of the line
 pub payloads-descrambled : (h : ℕ) (bs : List Block) → map (λ (b : Block). b .payload) (descrambledBlocks h bs) ≡ descrambledAll (map (λ (b : Block). b .payload) bs) h

@@ -1,6 +1,5 @@
 -- A fresh receiver over a line of blocks with 64 valid headers first and fewer than 16 invalid ones in all. Assumes nothing.
 use mathlib.Core.Path.{_≡_, refl, ap, _∙_}
-use mathlib.Core.Bool.{true, false}
 use mathlib.Core.List.{List, [], _∷_, map}
 use Prim.Native.Nat.{ℕ, suc, _*_, _<_}
 use lib.ListN.{length, length-map}

@@ -12,7 +12,7 @@ use Rattle.sending.specs.Send.{sentLine}
 use Rattle.sending.specs.Answer as Sending
 use Rattle.receiving.specs.Receive.{receivedVectors}
 use Rattle.receiving.specs.Answer as Receiving
-use Rattle.holzmotte.specs.Boundary.{resultOf, after, summaryBytes, tooShort, summaryWith, sendVerdict, sendWords, sendResult, sendLine, sendSummary, receiveVerdict, receiveWords, receiveResult, receiveVectors, receiveSummary}
+use Rattle.holzmotte.specs.Boundary.{resultOf, after, summaryBytes, tooShort, summaryWith, sendVerdict, sendWords, sendResult, sendLine, sendSummary, receiveLength, receiveVerdict, receiveWords, receiveResult, receiveVectors, receiveSummary}
 use Rattle.holzmotte.proofs.Laws.{long-first, summary-short, summary-long}
 use Rattle.demands.specs.ThroughC.{zeroed, Demand1OfSendThroughC, Demand1OfReceiveThroughC}
 use Rattle.demands.proofs.Demand1.{outcome}
@@ -97,12 +97,12 @@ pub demand-1-of-receive-through-c : Demand1OfReceiveThroughC
 unfolding receiveResult receiveVectors receiveSummary receiveVerdict Receiving.receiveRoom Receiving.receiveAnswer cut bit number
 demand-1-of-receive-through-c line room summary r room′ summary′ p =
     outcome _ _ _ _
-    (through 5 1 checks (receiveWords (Receiving.received (Receiving.summaryOf line))) (0 ∷ 0 ∷ 0 ∷ 0 ∷ 0 ∷ []) (receivedVectors line ++ drop (length (receivedVectors line)) room) room summary
-    refl r room′ summary′ (p .0) (p .1) (p .2 ∙ ap (λ (ws : List ℕ). summaryWith 5 ws summary) (by (first checks))))
+    (through receiveLength 1 checks (receiveWords (Receiving.received (Receiving.summaryOf line))) (replicate receiveLength 0) (receivedVectors line ++ drop (length (receivedVectors line)) room) room summary
+    refl r room′ summary′ (p .0) (p .1) (p .2 ∙ ap (λ (ws : List ℕ). summaryWith receiveLength ws summary) (by (first checks))))
   where
     checks : List Check
     checks = Receiving.receiveChecks (length line) (length room)
 
-    by : (v : Verdict) → receiveWords (byVerdict v (Receiving.received (Receiving.summaryOf line)) Receiving.refused) ≡ byVerdict v (receiveWords (Receiving.received (Receiving.summaryOf line))) (λ m q. 0 ∷ 0 ∷ 0 ∷ 0 ∷ 0 ∷ [])
+    by : (v : Verdict) → receiveWords (byVerdict v (Receiving.received (Receiving.summaryOf line)) Receiving.refused) ≡ byVerdict v (receiveWords (Receiving.received (Receiving.summaryOf line))) (λ m q. replicate receiveLength 0)
     by accepted = refl
     by (refused m q) = refl

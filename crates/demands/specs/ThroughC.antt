@@ -50,10 +50,10 @@ abbrev pub Demand1OfReceiveThroughC : Type 0
 Demand1OfReceiveThroughC =
     (line room summary : List ℕ) (r : ℕ) (room′ summary′ : List ℕ)
     → ReceivesThroughC line room summary r room′ summary′
-    → Outcome {A = ℕ × List ℕ × List ℕ} (Boundary.after 1 (check 4 (Boundary.tooShort 5 (length summary))) (Receiving.receiveChecks (length line) (length room)))
+    → Outcome {A = ℕ × List ℕ × List ℕ} (Boundary.after 1 (check 4 (Boundary.tooShort Boundary.receiveLength (length summary))) (Receiving.receiveChecks (length line) (length room)))
     (r, room′, summary′) (
       0,
       receivedVectors line ++ drop (length (receivedVectors line)) room,
-      Boundary.summaryBytes (Boundary.receiveWords (Receiving.received (Receiving.summaryOf line))) ++ drop 40 summary,
+      Boundary.summaryBytes (Boundary.receiveWords (Receiving.received (Receiving.summaryOf line))) ++ drop (8 * Boundary.receiveLength) summary,
     )
-    (λ number place. (number + 256 * place, room, zeroed 5 summary))
+    (λ number place. (number + 256 * place, room, zeroed Boundary.receiveLength summary))

@@ -11,7 +11,7 @@ use Rattle.block.specs.declared.Kind.the-variants.{C, S, T, E}
 use Rattle.block.specs.Block.{block, carried, encodeAnswer, highFrom, highControl, carrier, kindOf, localFaultVector}
 
 -- a payload by its bytes, the first lowest
-payload : List ℕ → ℕ
+unfoldable pub payload : List ℕ → ℕ
 payload [] = 0
 payload (b ∷ bs) = b + 2 ^ 8 * payload bs
 

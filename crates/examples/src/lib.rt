@@ -1,1 +1,1 @@
-// The marked examples of document 01: laws only.
+// The marked examples of document 01, and examples of reasons for document 02: laws only.

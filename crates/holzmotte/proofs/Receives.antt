@@ -11,7 +11,7 @@ use Rattle.refusals.specs.First.{check, Verdict, accepted, refused, first, byVe
 use Rattle.receiving.specs.Answer.{ReceiveAnswer, received, receiveChecks, summaryOf, receiveAnswer, receiveRoom}
 use Rattle.receiving.specs.Answer as Answer
 use Rattle.receiving.specs.declared.Summary.{Summary}
-use Rattle.holzmotte.specs.Boundary.{resultOf, after, summaryBytes, flagWord, tooShort, receiveVerdict, receiveWords, receiveResult, receiveVectors, receiveSummary}
+use Rattle.holzmotte.specs.Boundary.{resultOf, after, summaryBytes, flagWord, tooShort, receiveLength, receiveVerdict, receiveWords, receiveResult, receiveVectors, receiveSummary}
 use Rattle.holzmotte.proofs.Laws.{long-first, shortOf, kept, summary-short, summary-long}
 
 -- an answer tells the verdict
@@ -52,18 +52,18 @@ shortens true b b′ = refl
 shortens false b true = refl
 shortens false b false = refl
 
-module _ (line room summary : ℕ) (short : summary < 8 * 5) where
+module _ (line room summary : ℕ) (short : summary < 8 * receiveLength) where
   short-result : receiveResult line room summary ≡ shortOf (first (receiveChecks line 0))
   unfolding receiveResult receiveVerdict receiveChecks
   short-result =
-      rw (lt-ltb summary (8 * 5) short) (shortens (ltb 825000 line) (ltb room (10 * (8 * line / 66))) (ltb 0 (10 * (8 * line / 66))))
+      rw (lt-ltb summary (8 * receiveLength) short) (shortens (ltb 825000 line) (ltb room (10 * (8 * line / 66))) (ltb 0 (10 * (8 * line / 66))))
 
   short-keeps : {A : Type 0} (success before : A) → byVerdict (receiveVerdict line room summary) success (λ n p. before) ≡ before
   unfolding receiveVerdict receiveChecks
   short-keeps success before =
-      rw (lt-ltb summary (8 * 5) short) (refuses (ltb 825000 line) (ltb room (10 * (8 * line / 66))) success before)
+      rw (lt-ltb summary (8 * receiveLength) short) (refuses (ltb 825000 line) (ltb room (10 * (8 * line / 66))) success before)
 
-pub short-answer : (line : List ℕ) (room summary : ℕ) (answer : ReceiveAnswer) → answer ≡ receiveAnswer line 0 → summary < 8 * 5
+pub short-answer : (line : List ℕ) (room summary : ℕ) (answer : ReceiveAnswer) → answer ≡ receiveAnswer line 0 → summary < 8 * receiveLength
     → shortOf (verdictOf answer) ≡ receiveResult (length line) room summary
 short-answer line room summary answer e l =
     ap shortOf (ap verdictOf e ∙ verdict-told line 0) ∙ sym (short-result (length line) room summary l)
@@ -75,7 +75,7 @@ small line room number place e =
     omega arith
 
 -- with a summary too short
-pub shortly : (line room summary : List ℕ) (result : ℕ) → length summary < 8 * 5
+pub shortly : (line room summary : List ℕ) (result : ℕ) → length summary < 8 * receiveLength
     → result ≡ receiveResult (length line) (length room) (length summary)
     → (result ≡ receiveResult (length line) (length room) (length summary))
     × (room ≡ receiveVectors line room (length summary))
@@ -84,30 +84,30 @@ unfolding receiveVectors receiveSummary
 shortly line room summary result l e = (
   e,
   sym (short-keeps (length line) (length room) (length summary) l (receiveRoom line room) room),
-  sym (summary-short 5 (receiveWords (receiveAnswer line (length room))) summary l),
+  sym (summary-short receiveLength (receiveWords (receiveAnswer line (length room))) summary l),
 )
 
 -- with a summary that is long enough
-pub answered : (line room summary room′ summary′ : List ℕ) (answer : ReceiveAnswer) → 8 * 5 ≤ length summary
+pub answered : (line room summary room′ summary′ : List ℕ) (answer : ReceiveAnswer) → 8 * receiveLength ≤ length summary
     → answer ≡ receiveAnswer line (length room) → room′ ≡ receiveRoom line room
-    → summary′ ≡ summaryBytes (receiveWords answer) ++ drop 40 summary
+    → summary′ ≡ summaryBytes (receiveWords answer) ++ drop (8 * receiveLength) summary
     → (resultOf (verdictOf answer) ≡ receiveResult (length line) (length room) (length summary))
     × (room′ ≡ receiveVectors line room (length summary))
     × (summary′ ≡ receiveSummary line (length room) summary)
 unfolding receiveResult receiveVerdict receiveVectors receiveSummary receiveRoom
 answered line room summary room′ summary′ answer l e r s =
     let cs = receiveChecks (length line) (length room) in
-    let v : first (after 1 (check 4 (tooShort 5 (length summary))) cs) ≡ first cs = long-first 1 5 (length summary) cs l in
+    let v : first (after 1 (check 4 (tooShort receiveLength (length summary))) cs) ≡ first cs = long-first 1 receiveLength (length summary) cs l in
     let t : verdictOf answer ≡ first cs = ap verdictOf e ∙ verdict-told line (length room) in (
       ap resultOf (t ∙ sym v),
       r ∙ rw v (sym (kept (first cs) _ room)),
-      s ∙ ap (λ (a : ReceiveAnswer). summaryBytes (receiveWords a) ++ drop 40 summary) e
-          ∙ sym (summary-long 5 (receiveWords (receiveAnswer line (length room))) summary l),
+      s ∙ ap (λ (a : ReceiveAnswer). summaryBytes (receiveWords a) ++ drop (8 * receiveLength) summary) e
+          ∙ sym (summary-long receiveLength (receiveWords (receiveAnswer line (length room))) summary l),
     )
 
 -- the words, with the flags as they were made
 pub flagged : (s : Summary) (l h : ℕ) (rest summary : List ℕ) → l ≡ flagWord (s .locked) → h ≡ flagWord (s .high)
-    → summary ≡ summaryBytes (s .counts .tested ∷ s .counts .slips ∷ l ∷ h ∷ s .vectors ∷ []) ++ rest
+    → summary ≡ summaryBytes (s .counts .tested ∷ s .counts .slips ∷ l ∷ h ∷ s .vectors ∷ s .counts .headers ∷ s .counts .types ∷ s .counts .codes ∷ s .counts .sets ∷ []) ++ rest
     → summary ≡ summaryBytes (receiveWords (received s)) ++ rest
 flagged s l h rest summary e f put =
-    put ∙ ap₂ (λ (x y : ℕ). summaryBytes (s .counts .tested ∷ s .counts .slips ∷ x ∷ y ∷ s .vectors ∷ []) ++ rest) e f
+    put ∙ ap₂ (λ (x y : ℕ). summaryBytes (s .counts .tested ∷ s .counts .slips ∷ x ∷ y ∷ s .vectors ∷ s .counts .headers ∷ s .counts .types ∷ s .counts .codes ∷ s .counts .sets ∷ []) ++ rest) e f

@@ -4,7 +4,7 @@
 use Prim.Native.Nat.{ℕ, _+_, _*_}
 use mathlib.Core.Bool.{Bool, cond}
 use mathlib.Core.List.{List, [], _∷_, _++_}
-use lib.ListN.{length, take, drop}
+use lib.ListN.{length, take, drop, replicate}
 use lib.Dec.{ltb}
 use Rattle.bits.specs.Bits.{bit, cut}
 use Rattle.refusals.specs.First.{Check, check, Verdict, accepted, refused, first, byVerdict}
@@ -57,17 +57,23 @@ sendSummary vectors start room summary = summaryWith 3 (sendWords (Send.sendAnsw
 
 -- ---- receiving: refusal 1, then 4 for the summary or the room
 
+-- its summary has nine words
+abbrev pub receiveLength : ℕ
+receiveLength = 9
+
 unfoldable pub receiveVerdict : (line room summary : ℕ) → Verdict
-receiveVerdict line room summary = first (after 1 (check 4 (tooShort 5 summary)) (Receive.receiveChecks line room))
+receiveVerdict line room summary = first (after 1 (check 4 (tooShort receiveLength summary)) (Receive.receiveChecks line room))
 
 -- 1 for true, 0 for false
 abbrev pub flagWord : Bool → ℕ
 flagWord b = cond b 1 0
 
--- its five words: tested, slips, locked, high, vectors; zeros for a refusal
+-- tested, slips, locked, high, vectors; header, type, control code and ordered set code faults; zeros for a refusal
 abbrev pub receiveWords : Receive.ReceiveAnswer → List ℕ
-receiveWords (Receive.received s) = s .counts .tested ∷ s .counts .slips ∷ flagWord (s .locked) ∷ flagWord (s .high) ∷ s .vectors ∷ []
-receiveWords (Receive.refused number place) = 0 ∷ 0 ∷ 0 ∷ 0 ∷ 0 ∷ []
+receiveWords (Receive.received s) =
+    s .counts .tested ∷ s .counts .slips ∷ flagWord (s .locked) ∷ flagWord (s .high) ∷ s .vectors
+    ∷ s .counts .headers ∷ s .counts .types ∷ s .counts .codes ∷ s .counts .sets ∷ []
+receiveWords (Receive.refused number place) = replicate receiveLength 0
 
 unfoldable pub receiveResult : (line room summary : ℕ) → ℕ
 receiveResult line room summary = resultOf (receiveVerdict line room summary)
@@ -78,4 +84,4 @@ receiveVectors line room summary =
     byVerdict (receiveVerdict (length line) (length room) summary) (Receive.receiveRoom line room) (λ number place. room)
 
 unfoldable pub receiveSummary : List ℕ → (room : ℕ) → List ℕ → List ℕ
-receiveSummary line room summary = summaryWith 5 (receiveWords (Receive.receiveAnswer line room)) summary
+receiveSummary line room summary = summaryWith receiveLength (receiveWords (Receive.receiveAnswer line room)) summary

@@ -7,7 +7,7 @@ use refusals::number;
 use sending::Sent;
 use sending::send;
 ghost use mathlib.Core.Path.{_≡_};
-ghost use mathlib.Core.List.{[], _∷_, _++_};
+ghost use mathlib.Core.List.{_++_};
 ghost use Prim.Native.Nat.{ℕ, _+_, _*_, _<_, _≤_};
 ghost use lib.ListN.{length, drop};
 ghost use Rattle.refusals.specs.Number.{numberOf};
@@ -80,7 +80,7 @@ pub extern "C" fn holzmotte_send(
 
 // The result where the summary is too short: what receiving into no room is refused for, or else 4.
 fn receive_short(line: &[u8]) -> u64
-    ensures { λ r. ⌜ ((room summary : ℕ) → summary < 40 → r ≡ receiveResult (length (now (line .entry))) room summary) ⌝ }
+    ensures { λ r. ⌜ ((room summary : ℕ) → summary < 72 → r ≡ receiveResult (length (now (line .entry))) room summary) ⌝ }
 {
     let mut none = [0u8; 0];
     match receive(line, &mut none) {
@@ -89,14 +89,14 @@ fn receive_short(line: &[u8]) -> u64
     }
 }
 
-// Receives a line: a vector for each tested block goes to the room, five words to the summary.
+// Receives a line: a vector for each tested block goes to the room, nine words to the summary.
 #[no_mangle]
 pub extern "C" fn holzmotte_receive(line: &[u8], vectors: &mut [u8], summary: &mut [u8]) -> u64
     ensures { λ r. ⌜ r ≡ receiveResult (length (now (line .entry))) (length (now (vectors .entry))) (length (now (summary .entry))) ⌝ }
     ensures { λ _. ⌜ now (vectors .exit) ≡ receiveVectors (now (line .entry)) (now (vectors .entry)) (length (now (summary .entry))) ⌝ }
     ensures { λ _. ⌜ now (summary .exit) ≡ receiveSummary (now (line .entry)) (length (now (vectors .entry))) (now (summary .entry)) ⌝ }
 {
-    if summary.len() < 40 {
+    if summary.len() < 72 {
         return receive_short(line);
     }
     match receive(line, vectors) {
@@ -104,12 +104,22 @@ pub extern "C" fn holzmotte_receive(line: &[u8], vectors: &mut [u8], summary: &m
             let c = s.counts;
             put_words(
                 summary,
-                &[c.tested, c.slips, flag(s.locked), flag(s.high), s.vectors],
+                &[
+                    c.tested,
+                    c.slips,
+                    flag(s.locked),
+                    flag(s.high),
+                    s.vectors,
+                    c.headers,
+                    c.types,
+                    c.codes,
+                    c.sets,
+                ],
             );
             0
         }
         Received::Refused(why, place) => {
-            put_words(summary, &[0; 5]);
+            put_words(summary, &[0; 9]);
             refusal(why, place)
         }
     }

@@ -13,7 +13,6 @@ use Rattle.receiving.specs.Machine.{Feed, Run, Tested, run}
 use Rattle.receiving.specs.Receive.{judge, answers, countsOf, runOf, vectorsOf, receivedVectors}
 use Rattle.receiving.specs.Answer.{summaryOf}
 use Rattle.receiving.specs.Loop.{heldIn, feedIn, settle, bytesOf, Settled, Fresh, Ends, written, heldBytes}
-use Rattle.receiving.specs.declared.Counts.{Counts}
 use Rattle.receiving.specs.declared.Summary.{Summary}
 use Rattle.receiving.specs.declared.Receiver.{Receiver}
 use Rattle.receiving.specs.declared.Progress.{Progress}

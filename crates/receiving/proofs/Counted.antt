@@ -1,46 +1,114 @@
 -- The laws of the counts. Assumes nothing.
 use Prim.Native.Nat.{ℕ, suc, zero-le, _+_, _≤_, _<_}
-use mathlib.Core.Path.{_≡_, refl}
-use mathlib.Core.Bool.{Bool, true, false, cond}
+use mathlib.Core.Path.{_≡_, refl, sym, ap, _∙_}
+use mathlib.Core.Bool.{Bool, true, false, cond, not}
 use mathlib.Core.List.{List, [], _∷_}
 use native.Mathlib.Omega.{arith}
 use native.Mathlib.Nat.{add-zero, zero-add, add-assoc}
+use lib.Dec.{T}
 use lib.ListN.{length}
+use Rattle.block.specs.Block.{isError, kindIn}
+use Rattle.block.specs.declared.Class.{Class}
+use Rattle.block.specs.declared.Class.the-variants as Class
+use Rattle.block.specs.declared.Reason.{Reason}
+use Rattle.block.specs.declared.Reason.the-variants.{Header, BlockType, ControlCode, SetCode}
 use Rattle.receiving.specs.Machine.{Tested}
-use Rattle.receiving.specs.Receive.{howMany, countsOf}
-use Rattle.receiving.specs.Counted.{noCounts, plus, counted, Within}
+use Rattle.receiving.specs.Receive.{howMany, badFor, countsOf}
+use Rattle.receiving.specs.Counted.{noCounts, plus, reasoned, counted, Within}
 use Rattle.receiving.specs.declared.Counts.{Counts}
-
--- no more elements of a list pass a test than there are
-pub many-few : {A : Type 0} (test : A → Bool) (xs : List A) → howMany test xs ≤ length xs
-unfolding howMany
-many-few test [] = omega arith
-many-few test (x ∷ xs) = go (test x) (many-few test xs)
-  where
-    go : (b : Bool) → howMany test xs ≤ length xs → cond b 1 0 + howMany test xs ≤ suc (length xs)
-    go true h = omega arith
-    go false h = omega arith
 
 -- what one block adds, and then those after it
 pub count-more : (c : Counts) (t : Tested) (ts : List Tested) → plus (counted c t) (countsOf ts) ≡ plus c (countsOf (t ∷ ts))
-unfolding counted countsOf howMany
+unfolding counted reasoned countsOf howMany
 count-more c t ts =
     let tested : c .tested + 1 + length ts ≡ c .tested + suc (length ts) = omega arith in
-    let slips = add-assoc (c .slips) (cond (t .slipped) 1 0) (howMany (λ t. t .slipped) ts) in
-    λ i. record { tested = tested i; slips = slips i }
+    λ i. record {
+      tested = tested i;
+      slips = add-assoc (c .slips) (cond (t .slipped) 1 0) (howMany (λ t. t .slipped) ts) i;
+      headers = bad Header (c .headers) i;
+      types = bad BlockType (c .types) i;
+      codes = bad ControlCode (c .codes) i;
+      sets = bad SetCode (c .sets) i;
+    }
+  where
+    bad : (r : Reason) (n : ℕ)
+        → n + cond (badFor r (t .class)) 1 0 + howMany (λ t. badFor r (t .class)) ts ≡ n + (cond (badFor r (t .class)) 1 0 + howMany (λ t. badFor r (t .class)) ts)
+    bad r n = add-assoc n (cond (badFor r (t .class)) 1 0) (howMany (λ t. badFor r (t .class)) ts)
 
 -- no block adds nothing
 pub count-end : (c : Counts) → plus c (countsOf []) ≡ c
 unfolding countsOf howMany
-count-end c = λ i. record { tested = add-zero (c .tested) i; slips = add-zero (c .slips) i }
+count-end c =
+    λ i. record {
+      tested = add-zero (c .tested) i;
+      slips = add-zero (c .slips) i;
+      headers = add-zero (c .headers) i;
+      types = add-zero (c .types) i;
+      codes = add-zero (c .codes) i;
+      sets = add-zero (c .sets) i;
+    }
 
 -- from nothing on
 pub count-first : (c : Counts) → plus noCounts c ≡ c
-count-first c = λ i. record { tested = zero-add (c .tested) i; slips = zero-add (c .slips) i }
+count-first c =
+    λ i. record {
+      tested = zero-add (c .tested) i;
+      slips = zero-add (c .slips) i;
+      headers = zero-add (c .headers) i;
+      types = zero-add (c .types) i;
+      codes = zero-add (c .codes) i;
+      sets = zero-add (c .sets) i;
+    }
+
+-- ---- by the class of a block
+
+module _ (c : Counts) where
+  -- the sums of a class are its counts
+  summed : (k : Class) (h t o s : ℕ)
+      → h ≡ c .headers + cond (badFor Header k) 1 0 → t ≡ c .types + cond (badFor BlockType k) 1 0
+      → o ≡ c .codes + cond (badFor ControlCode k) 1 0 → s ≡ c .sets + cond (badFor SetCode k) 1 0
+      → record { tested = c .tested; slips = c .slips; headers = h; types = t; codes = o; sets = s } ≡ reasoned c k
+  unfolding reasoned
+  summed k h t o s p q u v = λ i. record { tested = c .tested; slips = c .slips; headers = p i; types = q i; codes = u i; sets = v i }
+
+  nought : (n : ℕ) → n ≡ n + 0
+  nought n = sym (add-zero n)
+
+  -- what is not bad counts for no reason
+  pub free : (k : Class) → T (not (isError (kindIn k))) → c ≡ reasoned c k
+  free Class.D t = summed Class.D _ _ _ _ (nought (c .headers)) (nought (c .types)) (nought (c .codes)) (nought (c .sets))
+  free Class.C t = summed Class.C _ _ _ _ (nought (c .headers)) (nought (c .types)) (nought (c .codes)) (nought (c .sets))
+  free Class.S t = summed Class.S _ _ _ _ (nought (c .headers)) (nought (c .types)) (nought (c .codes)) (nought (c .sets))
+  free Class.T t = summed Class.T _ _ _ _ (nought (c .headers)) (nought (c .types)) (nought (c .codes)) (nought (c .sets))
+  free (Class.Bad r) t = absurd t
+
+  -- what is bad counts for its reason alone
+  pub one-header : record { tested = c .tested; slips = c .slips; headers = c .headers + 1; types = c .types; codes = c .codes; sets = c .sets } ≡ reasoned c (Class.Bad Header)
+  one-header = summed (Class.Bad Header) _ _ _ _ refl (nought (c .types)) (nought (c .codes)) (nought (c .sets))
+
+  pub one-type : record { tested = c .tested; slips = c .slips; headers = c .headers; types = c .types + 1; codes = c .codes; sets = c .sets } ≡ reasoned c (Class.Bad BlockType)
+  one-type = summed (Class.Bad BlockType) _ _ _ _ (nought (c .headers)) refl (nought (c .codes)) (nought (c .sets))
+
+  pub one-code : record { tested = c .tested; slips = c .slips; headers = c .headers; types = c .types; codes = c .codes + 1; sets = c .sets } ≡ reasoned c (Class.Bad ControlCode)
+  one-code = summed (Class.Bad ControlCode) _ _ _ _ (nought (c .headers)) (nought (c .types)) refl (nought (c .sets))
+
+  pub one-set : record { tested = c .tested; slips = c .slips; headers = c .headers; types = c .types; codes = c .codes; sets = c .sets + 1 } ≡ reasoned c (Class.Bad SetCode)
+  one-set = summed (Class.Bad SetCode) _ _ _ _ (nought (c .headers)) (nought (c .types)) (nought (c .codes)) refl
+
+  -- one more block, with n slips
+  abbrev pub oneMore : ℕ → Counts
+  oneMore n = record { tested = c .tested + 1; slips = c .slips + n; headers = c .headers; types = c .types; codes = c .codes; sets = c .sets }
+
+  pub counted-is : (t : Tested) (n : ℕ) (r : Counts) → n ≡ cond (t .slipped) 1 0 → r ≡ reasoned (oneMore n) (t .class) → r ≡ counted c t
+  unfolding counted
+  counted-is t n r e q = q ∙ ap (λ (m : ℕ). reasoned (oneMore m) (t .class)) e
+
+-- ---- bounds
 
 -- nothing counted is within any bound
 pub within-none : (n : ℕ) → Within n noCounts
-within-none n = record { tested = zero-le; slips = zero-le }
+within-none n =
+    record { tested = zero-le; slips = zero-le; headers = zero-le; types = zero-le; codes = zero-le; sets = zero-le }
 
 -- a block adds at most one to each
 one-le : (b : Bool) → cond b 1 0 ≤ 1
@@ -48,9 +116,25 @@ one-le true = omega arith
 one-le false = omega arith
 
 pub within-next : (c : Counts) (t : Tested) (n m : ℕ) → Within n c → n < m → Within m (counted c t)
-unfolding counted
-within-next c t n m w l = record { tested = omega (arith, w .tested); slips = omega (arith, w .slips, one-le (t .slipped)) }
+unfolding counted reasoned
+within-next c t n m w l =
+    record {
+      tested = omega (arith, w .tested);
+      slips = omega (arith, w .slips, one-le (t .slipped));
+      headers = omega (arith, w .headers, one-le (badFor Header (t .class)));
+      types = omega (arith, w .types, one-le (badFor BlockType (t .class)));
+      codes = omega (arith, w .codes, one-le (badFor ControlCode (t .class)));
+      sets = omega (arith, w .sets, one-le (badFor SetCode (t .class)));
+    }
 
 -- a wider bound
 pub within-wide : (c : Counts) (n m : ℕ) → Within n c → n ≤ m → Within m c
-within-wide c n m w l = record { tested = omega (arith, w .tested); slips = omega (arith, w .slips) }
+within-wide c n m w l =
+    record {
+      tested = omega (arith, w .tested);
+      slips = omega (arith, w .slips);
+      headers = omega (arith, w .headers);
+      types = omega (arith, w .types);
+      codes = omega (arith, w .codes);
+      sets = omega (arith, w .sets);
+    }

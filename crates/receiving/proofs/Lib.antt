@@ -1,5 +1,6 @@
 pub mod Runs
 pub mod Steps
+pub mod Reasons
 pub mod Ranges
 pub mod Count
 pub mod Counted

@@ -1,22 +1,59 @@
 -- A reviewer can skip this file. Counts on the way.
 use Prim.Native.Nat.{ℕ, _+_, _≤_}
 use mathlib.Core.Bool.{cond}
+use Rattle.block.specs.declared.Class.{Class}
+use Rattle.block.specs.declared.Reason.the-variants.{Header, BlockType, ControlCode, SetCode}
 use Rattle.receiving.specs.Machine.{Tested}
+use Rattle.receiving.specs.Receive.{badFor}
 use Rattle.receiving.specs.declared.Counts.{Counts}
 
 -- nothing counted yet
 abbrev pub noCounts : Counts
-noCounts = record { tested = 0; slips = 0 }
+noCounts = record { tested = 0; slips = 0; headers = 0; types = 0; codes = 0; sets = 0 }
 
 -- two counts together
 abbrev pub plus : Counts → Counts → Counts
-plus a b = record { tested = a .tested + b .tested; slips = a .slips + b .slips }
+plus a b =
+    record {
+      tested = a .tested + b .tested;
+      slips = a .slips + b .slips;
+      headers = a .headers + b .headers;
+      types = a .types + b .types;
+      codes = a .codes + b .codes;
+      sets = a .sets + b .sets;
+    }
+
+-- one more block of this class, as far as the reasons go
+unfoldable pub reasoned : Counts → Class → Counts
+reasoned c k =
+    record {
+      tested = c .tested;
+      slips = c .slips;
+      headers = c .headers + cond (badFor Header k) 1 0;
+      types = c .types + cond (badFor BlockType k) 1 0;
+      codes = c .codes + cond (badFor ControlCode k) 1 0;
+      sets = c .sets + cond (badFor SetCode k) 1 0;
+    }
 
 -- one more tested block
 unfoldable pub counted : Counts → Tested → Counts
-counted c t = record { tested = c .tested + 1; slips = c .slips + cond (t .slipped) 1 0 }
+counted c t =
+    reasoned
+    (record {
+      tested = c .tested + 1;
+      slips = c .slips + cond (t .slipped) 1 0;
+      headers = c .headers;
+      types = c .types;
+      codes = c .codes;
+      sets = c .sets;
+    })
+    (t .class)
 
 -- no count is above n
 pub record Within (n : ℕ) (c : Counts) : Type 0 where
   pub tested : c .tested ≤ n
   pub slips : c .slips ≤ n
+  pub headers : c .headers ≤ n
+  pub types : c .types ≤ n
+  pub codes : c .codes ≤ n
+  pub sets : c .sets ≤ n

@@ -1,6 +1,7 @@
 pub mod Machine
 pub mod Receive
 pub mod Answer
+pub mod Reasons
 pub mod Ranges
 pub mod Counted
 pub mod Loop

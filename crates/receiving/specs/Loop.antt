@@ -22,7 +22,7 @@ use Rattle.receiving.specs.declared.Progress.{Progress}
 
 -- a block that is held is a tested block
 unfoldable pub testedIn : Held → Tested
-testedIn h = record { on = h .on; slipped = h .slipped; kind = h .kind; vector = vectorBytes (h .vector) }
+testedIn h = record { on = h .on; slipped = h .slipped; class = h .class; vector = vectorBytes (h .vector) }
 
 -- the block tested last, if there is one
 unfoldable pub heldIn : Receiver → List Tested

@@ -6,8 +6,8 @@ use lib.ListN.{length, getD}
 use lib.Dec.{eqb}
 use Rattle.bits.specs.Bits.{bit, number}
 use Rattle.scrambler.specs.Scrambler.{descrambled, lineAfter}
-use Rattle.block.specs.Block.{kindOf, decoded}
-use Rattle.block.specs.declared.Kind.{Kind}
+use Rattle.block.specs.Block.{decoded, classOf}
+use Rattle.block.specs.declared.Class.{Class}
 use Rattle.diagrams.specs.Lock.{lockFresh, lockOf, slipsOf}
 use Rattle.diagrams.specs.Rate.{rateFresh, rateOf}
 use Rattle.receiving.specs.declared.Link.{Link}
@@ -32,11 +32,11 @@ linkOf l header payload =
       history = lineAfter payload (l .history);
     }
 
--- a tested block: whether the receiver is then locked and not high, whether it slipped, the block's kind and its decoded vector
+-- a tested block: whether the receiver is then locked and not high, whether it slipped, the block's class and its decoded vector
 pub record Tested : Type 0 where
   pub on : Bool
   pub slipped : Bool
-  pub kind : Kind
+  pub class : Class
   pub vector : List ℕ
 
 unfoldable pub testedOf : Link → (header payload : ℕ) → Tested
@@ -44,7 +44,7 @@ testedOf l header payload =
     record {
       on = linkOf l header payload .lock .locked && not (linkOf l header payload .rate .high);
       slipped = slipsOf (l .lock) (validOf header);
-      kind = kindOf header (descrambled payload (l .history));
+      class = classOf header (descrambled payload (l .history));
       vector = decoded header (descrambled payload (l .history));
     }
 

@@ -3,8 +3,13 @@ use Prim.Native.Nat.{ℕ, _+_}
 use mathlib.Core.Bool.{Bool, false, cond, _&&_}
 use mathlib.Core.List.{List, [], _∷_, map, flatten}
 use lib.ListN.{length}
+use lib.Dec.{eqb}
 use Rattle.bits.specs.Bits.{lineBits}
-use Rattle.block.specs.Block.{errorVector, localFaultVector}
+use Rattle.block.specs.Block.{errorVector, localFaultVector, kindIn, classNumber}
+use Rattle.block.specs.declared.Reason.{Reason}
+use Rattle.block.specs.declared.Reason.the-variants.{Header, BlockType, ControlCode, SetCode}
+use Rattle.block.specs.declared.Class.{Class}
+use Rattle.block.specs.declared.Class.the-variants.{Bad}
 use Rattle.diagrams.specs.Diagram.{diagramOf, follows}
 use Rattle.diagrams.specs.declared.State.{State}
 use Rattle.diagrams.specs.declared.State.the-variants.{Init, Control, Data, Terminate, Error}
@@ -13,7 +18,7 @@ use Rattle.receiving.specs.declared.Counts.{Counts}
 
 -- Whether the next block is S or C: it "counts as E if testing it leaves the receiver not locked or high, and at the end of the input".
 unfoldable pub letsEnd : Tested → Bool
-letsEnd t = t .on && follows (t .kind)
+letsEnd t = t .on && follows (kindIn (t .class))
 
 unfoldable pub ends : List Tested → Bool
 ends [] = false
@@ -21,7 +26,7 @@ ends (t ∷ ts) = letsEnd t
 
 -- "Not locked or high: state INIT .. Else" the diagram's step
 unfoldable pub stateOf : State → Tested → Bool → State
-stateOf s t ends = cond (t .on) (diagramOf s (t .kind) ends) Init
+stateOf s t ends = cond (t .on) (diagramOf s (kindIn (t .class)) ends) Init
 
 -- "INIT, answer the Local Fault vector .. State E answers the error vector, the others the decoded block."
 unfoldable pub answerIn : State → List ℕ → List ℕ
@@ -57,9 +62,21 @@ unfoldable pub howMany : {A : Type 0} → (A → Bool) → List A → ℕ
 howMany test [] = 0
 howMany test (x ∷ xs) = cond (test x) 1 0 + howMany test xs
 
--- of the tested blocks: how many they are, and how many slipped
+-- whether a block of this class is bad for this reason
+abbrev pub badFor : Reason → Class → Bool
+badFor r k = eqb (classNumber k) (classNumber (Bad r))
+
+-- of the tested blocks: how many they are, and how many slipped. "Receiving counts the four reasons over all blocks tested" (document 02, 1/13).
 unfoldable pub countsOf : List Tested → Counts
-countsOf ts = record { tested = length ts; slips = howMany (λ t. t .slipped) ts }
+countsOf ts =
+    record {
+      tested = length ts;
+      slips = howMany (λ t. t .slipped) ts;
+      headers = howMany (λ t. badFor Header (t .class)) ts;
+      types = howMany (λ t. badFor BlockType (t .class)) ts;
+      codes = howMany (λ t. badFor ControlCode (t .class)) ts;
+      sets = howMany (λ t. badFor SetCode (t .class)) ts;
+    }
 
 -- ---- a fresh receiver over a whole line
 

@@ -3,7 +3,6 @@ use crate::Held;
 use decoding::Vector;
 use diagrams::State;
 ghost use mathlib.Core.Path.{_≡_};
-ghost use mathlib.Core.Bool.{cond};
 ghost use mathlib.Core.List.{_++_};
 ghost use Prim.Native.Nat.{_+_, _≤_};
 ghost use lib.ListN.{length, take, drop};
@@ -16,9 +15,9 @@ pub fn lets_end(next: Held) -> bool
     ensures { λ r. ⌜ r ≡ letsEnd (testedIn next) ⌝ }
 {
     let on = next.on;
-    let kind = next.kind;
+    let class = next.class;
     if on {
-        return diagrams::may_follow(kind);
+        return diagrams::may_follow(decoding::kind_in(class));
     }
     false
 }
@@ -28,9 +27,9 @@ fn state_step(s: State, h: Held, ends: bool) -> State
     ensures { λ r. ⌜ r ≡ stateOf s (testedIn h) ends ⌝ }
 {
     let on = h.on;
-    let kind = h.kind;
+    let class = h.class;
     if on {
-        return diagrams::diagram_step(s, kind, ends);
+        return diagrams::diagram_step(s, decoding::kind_in(class), ends);
     }
     State::Init
 }

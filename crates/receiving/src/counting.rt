@@ -1,10 +1,13 @@
 // What a tested block is counted for.
 use crate::Counts;
 use crate::Held;
+use block::Class;
+use block::Reason;
 ghost use mathlib.Core.Path.{_≡_};
 ghost use mathlib.Core.Bool.{cond};
 ghost use Prim.Native.Nat.{_≤_};
-ghost use Rattle.receiving.specs.Counted.{counted, Within};
+ghost use Rattle.block.specs.declared.Class.the-variants.{Bad};
+ghost use Rattle.receiving.specs.Counted.{reasoned, counted, Within};
 ghost use Rattle.receiving.specs.Loop.{testedIn};
 
 // 1 for true, 0 for false.
@@ -14,14 +17,54 @@ fn one_if(b: bool) -> u64
     if b { 1 } else { 0 }
 }
 
+// The counts with one more block that is bad for this reason.
+fn count_reason(c: Counts, why: Reason) -> Counts
+    requires { ⌜ Within 6600001 c ⌝ }
+    ensures { λ r. ⌜ r ≡ reasoned c (Bad why) ⌝ }
+{
+    let mut r = c;
+    match why {
+        Reason::Header => {
+            r.headers = c.headers + 1;
+            r
+        }
+        Reason::BlockType => {
+            r.types = c.types + 1;
+            r
+        }
+        Reason::ControlCode => {
+            r.codes = c.codes + 1;
+            r
+        }
+        Reason::SetCode => {
+            r.sets = c.sets + 1;
+            r
+        }
+    }
+}
+
+// What a tested block is counted as: its class, locked or not.
+fn counted_as(h: Held) -> Class
+    ensures { λ r. ⌜ r ≡ h .class ⌝ }
+{
+    h.class
+}
+
 // The counts with one more tested block.
 pub fn count_block(c: Counts, h: Held) -> Counts
     requires { ⌜ Within 6600000 c ⌝ }
     ensures { λ r. ⌜ r ≡ counted c (testedIn h) ⌝ }
 {
     let slipped = h.slipped;
-    Counts {
-        tested: c.tested + 1,
-        slips: c.slips + one_if(slipped),
+    let class = counted_as(h);
+    let mut r = c;
+    r.tested = c.tested + 1;
+    r.slips = c.slips + one_if(slipped);
+    match class {
+        Class::D => r,
+        Class::C => r,
+        Class::S => r,
+        Class::T => r,
+        Class::Bad(why) => count_reason(r, why),
     }
 }

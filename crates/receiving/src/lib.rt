@@ -1,5 +1,6 @@
 // Receiving a line: document 01, 'Diagrams' (Lock, Error rate, Receive), 'Scrambler' and 'Vectors, words and line bits'.
-use block::Kind;
+use block::Class;
+use block::Reason;
 use carrying::Carried;
 use carrying::nothing;
 use carrying::take_at;
@@ -9,7 +10,6 @@ use diagrams::Rate;
 use diagrams::State;
 use refusals::Refusal;
 ghost use mathlib.Core.Path.{_≡_};
-ghost use mathlib.Core.Bool.{cond};
 ghost use Prim.Native.Nat.{_*_, _/_, _≤_, _<_};
 ghost use lib.ListN.{length};
 ghost use Rattle.tables.specs.Tables.{tables, types};
@@ -32,10 +32,15 @@ pub struct Link {
     pub history: u64,
 }
 
-// What tested blocks are counted for: how many there are, and how many of them slipped.
+// What tested blocks are counted for: how many there are, how many of them slipped, and how many are bad by their header, type,
+// control codes or ordered set codes.
 pub struct Counts {
     pub tested: u64,
     pub slips: u64,
+    pub headers: u64,
+    pub types: u64,
+    pub codes: u64,
+    pub sets: u64,
 }
 
 // What receiving returns.
@@ -51,11 +56,11 @@ pub enum Received {
     Refused(Refusal, usize),
 }
 
-// A tested block: whether the receiver was then locked and not high, whether it slipped, its kind and its decoded vector.
+// A tested block: whether the receiver was then locked and not high, whether it slipped, its class and its decoded vector.
 pub struct Held {
     pub on: bool,
     pub slipped: bool,
-    pub kind: Kind,
+    pub class: Class,
     pub vector: Vector,
 }
 
@@ -150,6 +155,10 @@ fn receive_bits(
         counts: Counts {
             tested: 0,
             slips: 0,
+            headers: 0,
+            types: 0,
+            codes: 0,
+            sets: 0,
         },
     };
     while p.pos < bits {
@@ -183,7 +192,7 @@ fn fresh() -> Receiver
         held: Held {
             on: false,
             slipped: false,
-            kind: Kind::E,
+            class: Class::Bad(Reason::Header),
             vector: Vector {
                 c0: 0,
                 d0: 0,

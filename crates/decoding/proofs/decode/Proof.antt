@@ -1,5 +1,6 @@
--- `decoding::decode` meets its contract: data, eight idles, the row of the type, or kind E.
+-- `decoding::decode` meets its contract: data, eight idles, the row of the type, or bad by its type or header.
 use Prim.Native.Nat.{_%_}
+use mathlib.Core.Path.{_∙_}
 use native.Mathlib.Omega.{arith}
 use borrow.Author.Needs.{needs}
 use Rattle.tables.proofs.Entries.{type-at}
@@ -29,13 +30,23 @@ decode-row-requires : tie.Need-decode-row-requires
 decode-row-requires c κs = search needs
 
 returns-3 : tie.Need-returns-3
-returns-3 c = row-answer (c .before .before .before .before .before .before .args .header) (c .before .before .before .before .before .before .args .payload) _ _ _ (c .before .before .before .before .if2 .taken) (type-at (c .before .before .before .before .before .before .args .y .now) (c .before .before .before .before .before .before .pre .1) (c .before .before .before .before .before .before .args .payload % 256) (omega arith)) (c .decode-row .ensures)
+returns-3 c = row-answer (c .before .before .before .before .before .before .args .header) (c .before .before .before .before .before .before .args .payload) _ _ _ (c .before .before .before .before .if2 .taken) (type-at (c .before .before .before .before .before .before .args .y .now) (c .before .before .before .before .before .before .pre .1) (c .before .before .before .before .before .before .args .payload % 256) (omega arith)) (c .before .if4 .taken) (c .decode-row .ensures)
+
+bad-requires : tie.Need-bad-requires
+bad-requires c κs = search needs
 
 returns-4 : tie.Need-returns-4
-returns-4 c = no-type (c .before .before .before .before .before .args .header) (c .before .before .before .before .before .args .payload) _ (c .before .before .before .if2 .taken) (type-at (c .before .before .before .before .before .args .y .now) (c .before .before .before .before .before .pre .1) (c .before .before .before .before .before .args .payload % 256) (omega arith)) (c .if4 .left)
+returns-4 c =
+    let w = no-type (c .before .before .before .before .before .before .args .header) (c .before .before .before .before .before .before .args .payload) _ (c .before .before .before .before .if2 .taken) (type-at (c .before .before .before .before .before .before .args .y .now) (c .before .before .before .before .before .before .pre .1) (c .before .before .before .before .before .before .args .payload % 256) (omega arith)) (c .before .if4 .left) in
+    (c .bad .ensures .0 ∙ w .0, c .bad .ensures .1 ∙ w .1)
+
+bad-requires-2 : tie.Need-bad-requires-2
+bad-requires-2 c κs = search needs
 
 returns-5 : tie.Need-returns-5
-returns-5 c = no-header (c .before .before .args .header) (c .before .before .args .payload) (c .before .if1 .left) (c .if2 .left)
+returns-5 c =
+    let w = no-header (c .before .before .before .args .header) (c .before .before .before .args .payload) (c .before .before .if1 .left) (c .before .if2 .left) in
+    (c .bad2 .ensures .0 ∙ w .0, c .bad2 .ensures .1 ∙ w .1)
 
 pub decode-spec : {M : Type 1} → statement M
 decode-spec =
@@ -49,5 +60,7 @@ decode-spec =
     cast-r
     decode-row-requires
     returns-3
+    bad-requires
     returns-4
+    bad-requires-2
     returns-5)

@@ -1,7 +1,7 @@
 -- `decoding::four` meets its contract: four characters.
 use native.Mathlib.Omega.{arith}
 use borrow.Author.Needs.{needs}
-use Rattle.decoding.specs.Parts.{lanesBy, overBy}
+use Rattle.decoding.specs.Parts.{lanesBy, overBy, badBy}
 use Rattle.decoding.proofs.four.Statement.{statement}
 use Rattle.decoding.proofs.four.Tie as tie
 
@@ -65,10 +65,21 @@ add-t28 c = search needs
 add-t30 : tie.Need-add-t30
 add-t30 c = search needs
 
+add-t35 : tie.Need-add-t35
+add-t35 c = search needs
+
+add-t38 : tie.Need-add-t38
+add-t38 c = search needs
+
+add-t41 : tie.Need-add-t41
+add-t41 c = search needs
+
 returns : tie.Need-returns
 returns c = (
   λ i. lanesBy (c .before .before .before .character .ensures i) (c .before .before .character2 .ensures i) (c .before .character3 .ensures i) (c .character4 .ensures i),
   λ i. overBy (c .before .before .before .character .ensures i) (c .before .before .character2 .ensures i) (c .before .character3 .ensures i) (c .character4 .ensures i),
+  λ i. badBy (c .before .before .before .character .ensures i) (c .before .before .character2 .ensures i) (c .before .character3 .ensures i) (c .character4 .ensures i),
+  omega arith,
   omega arith,
 )
 
@@ -96,4 +107,7 @@ four-spec =
     add-t26
     add-t28
     add-t30
+    add-t35
+    add-t38
+    add-t41
     returns)

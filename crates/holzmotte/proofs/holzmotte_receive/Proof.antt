@@ -62,7 +62,7 @@ returns-2 c =
     let s = c .before .before .before .before .before .before .before .before .before .s .given .0 .0 in
     let t =
     answered (now (a .line)) (now (a .vectors)) (now (a .summary)) _ _ _ (c .before .before .before .before .before .before .before .before .before .before .before .before .before .before .before .if1 .left) (sym (ap answerOf (c .before .before .before .before .before .before .before .before .before .s .given .1)) ∙ c .before .before .before .before .before .before .before .before .before .before .before .before .before .receive .ensures .0) (c .before .before .before .before .before .before .before .before .before .before .before .before .before .receive .ensures .1)
-    (flagged s (c .before .before .before .before .before .flag .result) (c .before .before .before .before .flag2 .result) (drop 40 (now (a .summary))) _ (c .before .before .before .before .before .flag .ensures) (c .before .before .before .before .flag2 .ensures) (c .before .before .put-words .ensures)) in
+    (flagged s (c .before .before .before .before .before .flag .result) (c .before .before .before .before .flag2 .result) (drop 72 (now (a .summary))) _ (c .before .before .before .before .before .flag .ensures) (c .before .before .before .before .flag2 .ensures) (c .before .before .put-words .ensures)) in
     (t .0, (t .1, t .2))
 
 same-length-3 : tie.Need-same-length-3

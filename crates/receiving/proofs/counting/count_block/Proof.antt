@@ -1,22 +1,79 @@
--- `receiving::counting::count_block` meets its contract. Assumes nothing.
-use Rattle.receiving.specs.Counted.{counted}
+-- `receiving::counting::count_block` meets its contract, class by class. Assumes nothing.
+use mathlib.Core.Path.{sym, ap, _∙_}
+use Rattle.block.specs.declared.Class.the-variants as Class
+use Rattle.receiving.specs.Counted.{reasoned}
 use Rattle.receiving.specs.Loop.{testedIn}
+use Rattle.receiving.proofs.Counted.{free, counted-is}
 use borrow.Author.Needs.{needs}
 use Rattle.receiving.proofs.counting.count_block.Statement.{statement}
 use Rattle.receiving.proofs.counting.count_block.Tie as tie
 
-add-t4 : tie.Need-add-t4
-add-t4 c = search needs
+counted-as-requires : tie.Need-counted-as-requires
+counted-as-requires c κs = search needs
+
+add-r : tie.Need-add-r
+add-r c = search needs
 
 one-if-requires : tie.Need-one-if-requires
 one-if-requires c κs = search needs
 
-add-t6 : tie.Need-add-t6
-add-t6 c = search needs
+add-r-2 : tie.Need-add-r-2
+add-r-2 c = search needs
+
+enum-told : tie.Need-enum-told
+enum-told c = search needs
+
+enum-told-2 : tie.Need-enum-told-2
+enum-told-2 c = search needs
+
+enum-told-3 : tie.Need-enum-told-3
+enum-told-3 c = search needs
+
+enum-told-4 : tie.Need-enum-told-4
+enum-told-4 c = search needs
+
+enum-known-class : tie.Need-enum-known-class
+enum-known-class c = search needs
+
+count-reason-requires : tie.Need-count-reason-requires
+count-reason-requires c κs = search needs
 
 returns : tie.Need-returns
-unfolding counted testedIn
-returns c = rw (← c .before .one-if .ensures .0)
+unfolding testedIn
+returns c = counted-is (c .before .before .before .before .before .before .args .c) (testedIn (c .before .before .before .before .before .before .args .h)) _ _ (c .before .before .before .one-if .ensures .0) (free _ Class.D tt ∙ ap (reasoned _) (sym (c .enum-told .given .1) ∙ c .before .before .before .before .before .counted-as .ensures))
+
+returns-2 : tie.Need-returns-2
+unfolding testedIn
+returns-2 c = counted-is (c .before .before .before .before .before .before .args .c) (testedIn (c .before .before .before .before .before .before .args .h)) _ _ (c .before .before .before .one-if .ensures .0) (free _ Class.C tt ∙ ap (reasoned _) (sym (c .enum-told2 .given .1) ∙ c .before .before .before .before .before .counted-as .ensures))
+
+returns-3 : tie.Need-returns-3
+unfolding testedIn
+returns-3 c = counted-is (c .before .before .before .before .before .before .args .c) (testedIn (c .before .before .before .before .before .before .args .h)) _ _ (c .before .before .before .one-if .ensures .0) (free _ Class.S tt ∙ ap (reasoned _) (sym (c .enum-told3 .given .1) ∙ c .before .before .before .before .before .counted-as .ensures))
+
+returns-4 : tie.Need-returns-4
+unfolding testedIn
+returns-4 c = counted-is (c .before .before .before .before .before .before .args .c) (testedIn (c .before .before .before .before .before .before .args .h)) _ _ (c .before .before .before .one-if .ensures .0) (free _ Class.T tt ∙ ap (reasoned _) (sym (c .enum-told4 .given .1) ∙ c .before .before .before .before .before .counted-as .ensures))
+
+returns-5 : tie.Need-returns-5
+unfolding testedIn
+returns-5 c = counted-is (c .before .before .before .before .before .before .before .before .args .c) (testedIn (c .before .before .before .before .before .before .before .before .args .h)) _ _ (c .before .before .before .before .before .one-if .ensures .0) (c .count-reason .ensures ∙ ap (reasoned _) (sym (c .before .before .class .given .1) ∙ c .before .before .before .before .before .before .before .counted-as .ensures))
 
 pub count-block-spec : {M : Type 1} → statement M
-count-block-spec = tie.close (tie.spec add-t4 one-if-requires add-t6 returns)
+count-block-spec =
+    tie.close
+    (tie.spec
+    counted-as-requires
+    add-r
+    one-if-requires
+    add-r-2
+    enum-told
+    enum-told-2
+    enum-told-3
+    enum-told-4
+    enum-known-class
+    count-reason-requires
+    returns
+    returns-2
+    returns-3
+    returns-4
+    returns-5)
