@@ -1,6 +1,9 @@
-/* capture: writes a small capture file to standard output, for linkwatch to read. The library sends a list of vectors: idles, a
- * far end that reports Remote Fault, frames. Then the line is damaged: a header
- * bit of a frame's block flipped, and a stretch of noise. */
+/* capture SCENE: writes a small capture file to standard output, for linkwatch to read. The library sends a list of vectors: idles,
+ * a far end that reports Remote Fault, frames. The scenes:
+ *   clean    the line as it was sent
+ *   noise    a header bit of a frame's block is flipped, and a stretch of the line is noise
+ *   fibre    one bit in 3,001 is flipped, from block 70 on
+ *   sender   the line is whole, and the far end sends five errors before its last idles */
 #include "holzmotte.h"
 
 #include <stdio.h>
@@ -16,6 +19,8 @@ static void add(const char *vector, size_t count)
 }
 
 static void idles(size_t count) { add("\x0f\x07\x07\x07\x07\x0f\x07\x07\x07\x07", count); }
+
+static void errors(size_t count) { add("\x0f\xfe\xfe\xfe\xfe\x0f\xfe\xfe\xfe\xfe", count); }
 
 /* A frame of 8 * n octets after its preamble. */
 static void frame(size_t n)
@@ -36,8 +41,23 @@ static void write_records(size_t len)
     }
 }
 
-int main(void)
+static void noise(void)
 {
+    uint32_t random = 1;
+    line[33 * 50] ^= 1; /* the header of block 200 */
+    for (size_t i = 33 * 100; i < 33 * 130; i++)
+        line[i] = (uint8_t)((random = random * 1664525 + 1013904223) >> 24);
+}
+
+static void flips(size_t len)
+{
+    for (size_t bit = 66 * 70; bit < 8 * len; bit += 3001)
+        line[bit / 8] ^= (uint8_t)(1 << bit % 8);
+}
+
+int main(int argc, char **argv)
+{
+    const char *scene = argc == 2 ? argv[1] : "clean";
     idles(80);
     add("\x01\x9c\x00\x00\x02\x01\x9c\x00\x00\x02", 24);
     idles(12);
@@ -48,6 +68,8 @@ int main(void)
     idles(800);
     frame(8);
     idles(70);
+    if (strcmp(scene, "sender") == 0)
+        errors(5);
     idles(4 - vectors_len / 10 % 4);
 
     uint64_t result = holzmotte_send(vectors, vectors_len, 0x2a5a5a5a5a5a5a5, line, sizeof line, summary, sizeof summary);
@@ -56,10 +78,10 @@ int main(void)
         return 1;
     }
     size_t len = HOLZMOTTE_LINE_ROOM(vectors_len);
-    line[33 * 50] ^= 1; /* the header of block 200 */
-    uint32_t noise = 1;
-    for (size_t i = 33 * 100; i < 33 * 130; i++)
-        line[i] = (uint8_t)((noise = noise * 1664525 + 1013904223) >> 24);
+    if (strcmp(scene, "noise") == 0)
+        noise();
+    if (strcmp(scene, "fibre") == 0)
+        flips(len);
     write_records(len);
     return 0;
 }

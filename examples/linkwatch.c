@@ -1,7 +1,8 @@
 /* linkwatch CAPTURE: tells a person what a 10GBASE-R link was saying, from a capture file of line records.
  *
- * It gathers the records' line bytes, has the library receive them, and prints one line for each run of vectors that say the same.
- * All that it tells stands in the vectors and summaries that the library answered. A block takes 6.4 ns on the line. */
+ * It gathers the records' line bytes, has the library receive them, and prints how many blocks were bad and why, and one line for
+ * each run of vectors that say the same. All that it tells stands in the vectors and summaries that the library answered. A block
+ * takes 6.4 ns on the line. */
 #include "holzmotte.h"
 
 #include <stdio.h>
@@ -10,7 +11,7 @@
 #define MOST_BODY 4092
 
 static uint8_t line[HOLZMOTTE_MAX_LINE_BYTES + MOST_BODY], vectors[HOLZMOTTE_MAX_VECTOR_BYTES];
-static uint8_t summary[HOLZMOTTE_RECEIVE_SUMMARY_BYTES];
+static uint8_t summary[HOLZMOTTE_RECEIVE_SUMMARY_BYTES], summary_at_lock[HOLZMOTTE_RECEIVE_SUMMARY_BYTES];
 static size_t line_len, place; /* place: of the record that is read */
 
 /* Gathers the line bytes of a capture file: 0, or the number of the first refusal. A record is body length (2 bytes), kind (2 bytes;
@@ -74,7 +75,14 @@ static unsigned long first_lock(void)
     while (locked_after(n - 1))
         n--;
     receive(n);
+    memcpy(summary_at_lock, summary, sizeof summary);
     return word(HOLZMOTTE_RECEIVE_TESTED);
+}
+
+/* What a word of the summary has gained since lock first came: a longer beginning of a line counts all that a shorter one does. */
+static unsigned long since_lock(enum holzmotte_receive_word i)
+{
+    return word(i) - (unsigned long)holzmotte_word(summary_at_lock, i);
 }
 
 static const uint8_t *vector(unsigned long n) { return vectors + HOLZMOTTE_VECTOR_BYTES * n; }
@@ -130,6 +138,31 @@ static void print_run(unsigned long from, unsigned long to, unsigned long lock)
     puts("");
 }
 
+/* A bit that is damaged on the way shows at three places of the descrambled line: a little damage may hit codes alone, much of it
+ * hits headers and types too. A far sender that sends wrong codes, or error blocks, leaves headers and types whole. The totals show
+ * no more than this, and without lock not even this. */
+static void print_bad_blocks(unsigned long lock)
+{
+    unsigned long header = since_lock(HOLZMOTTE_RECEIVE_HEADER_FAULTS), type = since_lock(HOLZMOTTE_RECEIVE_TYPE_FAULTS);
+    unsigned long code = since_lock(HOLZMOTTE_RECEIVE_CONTROL_CODE_FAULTS), set = since_lock(HOLZMOTTE_RECEIVE_SET_CODE_FAULTS);
+    if (lock == 0) {
+        puts("bad blocks: without lock their numbers say nothing about the link");
+        return;
+    }
+    printf("bad blocks after block %lu: ", lock - 1);
+    if (header + type + code + set == 0) {
+        puts("none");
+        return;
+    }
+    printf("%lu header, %lu type, %lu control code, %lu ordered set code\n", header, type, code, set);
+    if (since_lock(HOLZMOTTE_RECEIVE_SLIPS) > 0)
+        puts("  lock was lost over damaged headers (blocks cut at a wrong place count too): look at the fibre and the transceivers");
+    else if (header + type > 0)
+        puts("  headers or types are damaged: look at the fibre and the transceivers");
+    else
+        puts("  headers and types are whole, codes are not: if they are many, look at the far sender (its error blocks count too)");
+}
+
 static void print_link(unsigned long lock)
 {
     unsigned long count = word(HOLZMOTTE_RECEIVE_VECTORS), from = 0;
@@ -140,6 +173,7 @@ static void print_link(unsigned long lock)
         printf("first locked with block %lu", lock - 1);
     printf("; at the end %slocked%s\n", word(HOLZMOTTE_RECEIVE_LOCKED) ? "" : "not ",
            word(HOLZMOTTE_RECEIVE_HIGH) ? ", with a high error rate" : "");
+    print_bad_blocks(lock);
     puts("   block   blocks      duration  what the link says");
     for (unsigned long n = 0; n < count; n++)
         if (n + 1 == count || n + 2 == lock || !goes_on(n)) {
