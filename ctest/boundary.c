@@ -113,6 +113,7 @@ static void whole_calls(void)
         CHECK(holzmotte_word(summary, HOLZMOTTE_RECEIVE_SLIPS) == 0);
         CHECK(holzmotte_word(summary, HOLZMOTTE_RECEIVE_LOCKED) == (vectors >= 64));
         CHECK(holzmotte_word(summary, HOLZMOTTE_RECEIVE_HIGH) == 0);
+        CHECK(holzmotte_word(summary, HOLZMOTTE_RECEIVE_ALONE) == 0);
         CHECK(only_fault(0));
         CHECK(out[out_len - 1] == (vectors >= 64 ? 0x07 : 0x01));
     }
@@ -175,7 +176,7 @@ static void longer_slices(void)
     CHECK(all(out + 10, 100, ROOM));
     CHECK(holzmotte_word(summary, HOLZMOTTE_RECEIVE_TESTED) == 1 && holzmotte_word(summary, HOLZMOTTE_RECEIVE_SLIPS) == 1);
     CHECK(only_fault(HOLZMOTTE_RECEIVE_HEADER_FAULTS));
-    CHECK(all(summary + 72, 9, SUMMARY));
+    CHECK(all(summary + 80, 9, SUMMARY));
     group("longer slices keep their rest");
 }
 
@@ -206,6 +207,28 @@ static void bad_blocks(void)
     counts(CONTROL, 0x010000004b, HOLZMOTTE_RECEIVE_SET_CODE_FAULTS);           /* ordered set code 1 */
     counts(CONTROL, 0x110000004b, HOLZMOTTE_RECEIVE_CONTROL_CODE_FAULTS);       /* and code 01 */
     group("bad blocks, one at a time, each counted under its reason");
+}
+
+#define START "\x01\xfb\x55\x55\x55\x00\x55\x55\x55\xd5"
+#define TERMINATE "\x0f\xfd\x07\x07\x07\x0f\x07\x07\x07\x07"
+
+/* The line of idles and a frame of two vectors, up to its end and longer by every number of bytes up to four blocks. The block after
+ * the frame is whole with its ninth byte. */
+static void last_frame(void)
+{
+    lend(10 * 72, HOLZMOTTE_LINE_ROOM(10 * 72), HOLZMOTTE_SEND_SUMMARY_BYTES);
+    idles();
+    memcpy(in + 10 * 66, START TERMINATE, 20);
+    CHECK(sends(0) == HOLZMOTTE_DONE);
+    const uint8_t *line = out;
+    for (size_t n = 33 * 17; n <= 33 * 18; n++) {
+        lend(n, HOLZMOTTE_VECTOR_ROOM(n), HOLZMOTTE_RECEIVE_SUMMARY_BYTES);
+        memcpy(in, line, n);
+        CHECK(receives() == HOLZMOTTE_DONE);
+        CHECK(memcmp(out + 10 * 66, START TERMINATE, 20) == 0);
+        CHECK(holzmotte_word(summary, HOLZMOTTE_RECEIVE_ALONE) == (n < 33 * 17 + 9));
+    }
+    group("a line that stops at the end of a frame, and longer ones");
 }
 
 /* Sends idles, with one control byte spoilt where `spoilt` is an offset in them, and looks for a refusal. */
@@ -257,14 +280,14 @@ static void receive_refused(size_t bytes, size_t room, size_t words, int number)
 static void receiving_refusals(void)
 {
     for (int i = 0; i < 4; i++) {
-        size_t words = (const size_t[]){72, 80, 71, 0}[i];
+        size_t words = (const size_t[]){80, 88, 79, 0}[i];
         receive_refused(HOLZMOTTE_MAX_LINE_BYTES + 1, 0, words, HOLZMOTTE_TOO_LONG);
         receive_refused(HOLZMOTTE_MAX_LINE_BYTES + 1, 1000010, words, HOLZMOTTE_TOO_LONG);
         receive_refused(9, 9, words, HOLZMOTTE_NO_ROOM);
         receive_refused(33, 39, words, HOLZMOTTE_NO_ROOM);
         receive_refused(HOLZMOTTE_MAX_LINE_BYTES, 999999, words, HOLZMOTTE_NO_ROOM);
     }
-    for (size_t words = 0; words < 72; words++)
+    for (size_t words = 0; words < 80; words++)
         receive_refused(33, 40, words, HOLZMOTTE_NO_ROOM);
     group("receiving's refusals, in their order, with short summaries");
 }
@@ -277,6 +300,7 @@ int main(void)
     empty_slices();
     longer_slices();
     bad_blocks();
+    last_frame();
     sending_refusals();
     receiving_refusals();
     printf("%d passed, %d failed\n", passed, failed);

@@ -3,7 +3,8 @@
  *   clean    the line as it was sent
  *   noise    a header bit of a frame's block is flipped, and a stretch of the line is noise
  *   fibre    one bit in 3,001 is flipped, from block 70 on
- *   sender   the line is whole, and the far end sends five errors before its last idles */
+ *   sender   the line is whole, and the far end sends five errors before its last idles
+ *   cut      the capture stops with the byte in which the last frame's Terminate ends */
 #include "holzmotte.h"
 
 #include <stdio.h>
@@ -67,6 +68,7 @@ int main(int argc, char **argv)
     frame(8);
     idles(800);
     frame(8);
+    size_t frames_bits = vectors_len / 10 * 66;
     idles(70);
     if (strcmp(scene, "sender") == 0)
         errors(5);
@@ -82,6 +84,8 @@ int main(int argc, char **argv)
         noise();
     if (strcmp(scene, "fibre") == 0)
         flips(len);
+    if (strcmp(scene, "cut") == 0)
+        len = (frames_bits + 7) / 8;
     write_records(len);
     return 0;
 }

@@ -133,6 +133,8 @@ static void print_run(unsigned long from, unsigned long to, unsigned long lock)
         printf(", no Start");
     if (said == FRAME && !ends(vector(to - 1)))
         printf(", no Terminate");
+    if (to == word(HOLZMOTTE_RECEIVE_VECTORS) && word(HOLZMOTTE_RECEIVE_ALONE))
+        printf(", judged without what follows it");
     if (said == LOCAL_FAULT)
         printf("%s", lock == 0 || to < lock ? ": not locked yet" : ": sent, or lock lost, or the error rate high");
     puts("");

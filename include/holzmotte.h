@@ -41,7 +41,7 @@ extern "C" {
 #define HOLZMOTTE_MAX_VECTOR_BYTES 1000000
 #define HOLZMOTTE_MAX_LINE_BYTES 825000
 #define HOLZMOTTE_SEND_SUMMARY_BYTES 24
-#define HOLZMOTTE_RECEIVE_SUMMARY_BYTES 72
+#define HOLZMOTTE_RECEIVE_SUMMARY_BYTES 80
 
 /* The room that sending wants for its line, and receiving for its vectors (also where slips leave fewer vectors than fit). */
 #define HOLZMOTTE_LINE_ROOM(vector_bytes) ((size_t)(vector_bytes) / 40 * 33)
@@ -76,7 +76,11 @@ enum holzmotte_send_word {
  *   - Every tested block is judged, locked or not. Before lock the four say little: blocks may be cut at a wrong place then, and the
  *     descrambler is not settled in the first block of a line and after a slip.
  *   - An error block that the far end sent (type 1e with eight codes 1e) is a control code fault.
- *   - A good block out of turn, such as data outside a frame, may be answered as the error vector: it counts under none of them. */
+ *   - A good block out of turn, such as data outside a frame, may be answered as the error vector: it counts under none of them.
+ *
+ * Word 9 speaks of the last vector. A Terminate is accepted only where the next block begins a frame or stands between frames (idles,
+ * ordered sets); else it is answered as the error vector. Where the line stops, in the middle of the next block too, it is taken as
+ * if idles followed, and word 9 is 1: the same line, longer, may show this vector as an error. */
 enum holzmotte_receive_word {
     HOLZMOTTE_RECEIVE_TESTED = 0,              /* blocks whose header was tested */
     HOLZMOTTE_RECEIVE_SLIPS = 1,               /* slips: one line bit skipped for each, in search of lock */
@@ -86,7 +90,8 @@ enum holzmotte_receive_word {
     HOLZMOTTE_RECEIVE_HEADER_FAULTS = 5,       /* the two header bits are equal */
     HOLZMOTTE_RECEIVE_TYPE_FAULTS = 6,         /* a control block whose type is none of the fifteen */
     HOLZMOTTE_RECEIVE_CONTROL_CODE_FAULTS = 7, /* a 7-bit code of no control character; in type 1e also the error character's, 1e */
-    HOLZMOTTE_RECEIVE_SET_CODE_FAULTS = 8      /* an ordered set code other than 0 and f */
+    HOLZMOTTE_RECEIVE_SET_CODE_FAULTS = 8,     /* an ordered set code other than 0 and f */
+    HOLZMOTTE_RECEIVE_ALONE = 9                /* 1 where the last vector ends a frame, judged without what follows it, else 0 */
 };
 
 enum holzmotte_diagram { HOLZMOTTE_INIT = 0, HOLZMOTTE_C = 1, HOLZMOTTE_D = 2, HOLZMOTTE_T = 3, HOLZMOTTE_E = 4 };

@@ -4,7 +4,7 @@ use compare::library;
 use compare::lines::{control, idle, until_high, Line};
 use compare::lists;
 use compare::random::Random;
-use compare::reference::block::{put, FORMATS};
+use compare::reference::block::{put, Kind, FORMATS};
 
 /// Calls both with lent slices of these lengths.
 fn same(room: usize, summary_room: usize, call: impl Fn(&mut [u8], &mut [u8], bool) -> u64) {
@@ -56,6 +56,17 @@ fn receiving_bad_blocks(random: &mut Random) {
     receiving_line(&Line::of_blocks(&blocks, random.start_state()), random);
 }
 
+/// A frame whose Terminate is the last block, or has one block of any kind after it.
+fn receiving_last_frame(random: &mut Random) {
+    let mut vectors = lists::idle().repeat(64);
+    vectors.extend(lists::start());
+    vectors.extend(lists::of_kind(Kind::T, random));
+    if random.once_in(2) {
+        vectors.extend(lists::of_kind(random.pick(&[Kind::D, Kind::C, Kind::S, Kind::T, Kind::E]), random));
+    }
+    receiving_line(&Line::of_list(&vectors, random.start_state()), random);
+}
+
 fn receiving_line(line: &Line, random: &mut Random) {
     let line = line.bytes();
     let room = (8 * line.len() / 66 * 10 + 3).saturating_sub(random.below(5));
@@ -71,6 +82,7 @@ pub fn check() {
         sending(&mut random);
         receiving(&mut random);
         receiving_bad_blocks(&mut random);
+        receiving_last_frame(&mut random);
     }
     let too_long = vec![0; 1_000_040];
     same(825_033, 24, |line, summary, by_library| {

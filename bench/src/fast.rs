@@ -465,7 +465,7 @@ fn put_vector(out: &mut [u8], n: usize, flags: u8, octets: u64) {
     out[6..10].copy_from_slice(&((octets >> 32) as u32).to_le_bytes());
 }
 
-/// Only Terminate waits for the next block: it is answered at once, and taken back where what comes is neither S nor C.
+/// Only Terminate waits for the next block: it is answered at once, and taken back where one comes that is neither S nor C.
 #[inline(always)]
 fn judge_terminate(state: &mut State, next: Kind, out: &mut [u8], tested: usize) {
     if *state == State::T && !matches!(next, Kind::S | Kind::C) {
@@ -507,12 +507,12 @@ fn payload_at(line: &[u8], at: usize) -> u64 {
 #[inline(never)]
 pub fn receive(line: &[u8], vectors: &mut [u8], summary: &mut [u8]) -> u64 {
     if line.len() > 825_000 {
-        return refuse(summary, 9, 1, 0);
+        return refuse(summary, 10, 1, 0);
     }
     let bits = 8 * line.len();
     let wanted = bits / 66 * 10;
-    if vectors.len() < wanted || summary.len() < 72 {
-        return refuse(summary, 9, 4, 0);
+    if vectors.len() < wanted || summary.len() < 80 {
+        return refuse(summary, 10, 4, 0);
     }
     let mut receiver = Receiver::default();
     let mut state = State::Init;
@@ -524,9 +524,9 @@ pub fn receive(line: &[u8], vectors: &mut [u8], summary: &mut [u8]) -> u64 {
         slips += slipped as u64;
         at += 66 + slipped as usize;
     }
-    judge_terminate(&mut state, Kind::E, vectors, tested);
     let [header, type_byte, control_code, set_code, ..] = receiver.faults;
     let (locked, high) = (receiver.locked as u64, receiver.high as u64);
-    put_words(summary, &[tested as u64, slips, locked, high, tested as u64, header, type_byte, control_code, set_code]);
+    let (tested, alone) = (tested as u64, (state == State::T) as u64);
+    put_words(summary, &[tested, slips, locked, high, tested, header, type_byte, control_code, set_code, alone]);
     0
 }

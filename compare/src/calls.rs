@@ -44,6 +44,8 @@ pub struct Tally {
     pub received: u64,
     /// Bad blocks among those received, by reason.
     pub faults: [u64; 4],
+    /// Lines whose last vector was judged without its successor.
+    pub alone: u64,
     pub refusals: u64,
 }
 
@@ -54,6 +56,7 @@ impl Tally {
         self.receives += other.receives;
         self.received += other.received;
         self.add_faults(other.faults);
+        self.alone += other.alone;
         self.refusals += other.refusals;
     }
 
@@ -126,7 +129,10 @@ impl Calls {
         let got = library::receive(input.slice(), vectors.slice(), summary.slice());
         self.tally.receives += 1;
         self.tally.received += output.len() as u64 / 10;
-        self.tally.add_faults(answer.map_or([0; 4], |received| received.faults()));
+        if let Ok(received) = answer {
+            self.tally.add_faults(received.faults());
+            self.tally.alone += received.alone() as u64;
+        }
         same(
             &format!("receiving {} bytes, room {room}, summary {summary_room}", line.len()),
             ["line", "vectors", "summary"],

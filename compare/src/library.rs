@@ -52,7 +52,7 @@ pub fn receive(line: &[u8], vectors: &mut [u8], summary: &mut [u8]) -> u64 {
 }
 
 /// The words of receiving's summary, and its bytes.
-pub const RECEIVE_WORDS: usize = 9;
+pub const RECEIVE_WORDS: usize = 10;
 pub const RECEIVE_SUMMARY_BYTES: usize = 8 * RECEIVE_WORDS;
 
 /// Word `i` of a summary.

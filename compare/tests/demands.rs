@@ -7,13 +7,14 @@ use compare::reference::block::{decode, fields_of, format_of, kind_of_vector, Bl
 use compare::reference::sending::bytes;
 use compare::reference::vector::{characters, Character, Vector, ERROR, LOCAL_FAULT};
 
-/// "For every vector list that sending accepts from any allowed start state, that is legal, whose first 64 vectors are control vectors
-/// and whose last does not end a frame": 63 Local Fault vectors, then the list from vector 63 on.
+/// "For every vector list that sending accepts from any allowed start state, that is legal, whose first 64 vectors are control
+/// vectors", and whose last may end a frame since request 6/13: 63 Local Fault vectors, then the list from vector 63 on.
 #[test]
 fn demand_2_legal_lists_come_back() {
     let mut random = Random::new(2);
+    let mut ended = 0;
     for n in 0..4_000 {
-        let vectors = legal(64 + 4 * random.below(40), &mut random);
+        let vectors = list_after_lock(64 + 4 * random.below(40), 0, &mut random);
         let start = random.start_state();
         let (line, summary) = sent(&vectors, start);
         assert_eq!(word(&summary, 2), 0, "list {n}: nothing is replaced");
@@ -24,20 +25,14 @@ fn demand_2_legal_lists_come_back() {
         let count = vectors.len() as u64 / 10;
         assert_eq!(words[..5], [count, 0, 1, 0, count], "list {n}");
         // a receiver that starts with zeros takes the first block amiss, unless the sender started with zeros too
-        let bad: u64 = words[5..].iter().sum();
+        let bad: u64 = words[5..9].iter().sum();
         assert!(bad == 0 || (bad == 1 && start != 0), "list {n}: {bad} bad blocks");
+        let ends = kind_of_vector(vectors.last_chunk().unwrap()) == Kind::T;
+        assert_eq!(words[9], ends as u64, "list {n}");
+        ended += ends as u32;
     }
-}
-
-/// A legal list of `n` vectors for demand 2.
-fn legal(n: usize, random: &mut Random) -> Vec<u8> {
-    loop {
-        let vectors = list_after_lock(n, 0, random);
-        let last: &Vector = vectors[10 * (n - 1)..].try_into().unwrap();
-        if kind_of_vector(last) != Kind::T {
-            return vectors;
-        }
-    }
+    // neither case is empty
+    assert!((200..3_800).contains(&ended), "{ended} lists end with a frame's end");
 }
 
 /// "At most three flipped bits of the sent line, all in block 64 or later, never both header bits of one block". Mostly near each

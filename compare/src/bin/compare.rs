@@ -77,6 +77,7 @@ fn round(options: &Options, seed: u64) -> (usize, usize) {
     println!("compared: {} blocks sent, {} blocks received, {} refusals", total.sent, total.received, total.refusals);
     let [header, type_byte, control_code, set_code] = total.faults;
     println!("bad blocks received: {header} header, {type_byte} type, {control_code} control code, {set_code} ordered set code");
+    println!("lines that end with an accepted Terminate: {}", total.alone);
     (passed, failed)
 }
 

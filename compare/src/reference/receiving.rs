@@ -7,7 +7,7 @@ use super::vector::{Vector, ERROR, LOCAL_FAULT};
 use super::{refused, Refusal};
 
 pub const MOST_LINE_BYTES: usize = 825_000;
-pub const SUMMARY_BYTES: usize = 72;
+pub const SUMMARY_BYTES: usize = 80;
 
 pub struct Received {
     /// The tested blocks, descrambled.
@@ -25,11 +25,17 @@ impl Received {
         FAULTS.map(|reason| found.iter().filter(|fault| **fault == reason).count() as u64)
     }
 
+    /// "The last vector was judged without its successor, set exactly when it is an accepted Terminate": a block of kind T that is
+    /// answered as it is decoded.
+    pub fn alone(&self) -> bool {
+        self.blocks.last().is_some_and(|last| kind(last) == Kind::T && self.vectors.ends_with(&decode(last)))
+    }
+
     /// The summary as it crosses the C boundary; word 4 is the number of vectors.
     pub fn summary(&self) -> Vec<u8> {
         let (tested, vectors) = (self.blocks.len() as u64, self.vectors.len() as u64 / 10);
         let words = [tested, self.slips, self.locked as u64, self.high as u64, vectors];
-        words.into_iter().chain(self.faults()).flat_map(u64::to_le_bytes).collect()
+        words.into_iter().chain(self.faults()).chain([self.alone() as u64]).flat_map(u64::to_le_bytes).collect()
     }
 }
 
@@ -96,8 +102,8 @@ fn answers(tested: &[Tested]) -> Vec<u8> {
     let mut state = State::Init;
     let mut vectors = Vec::new();
     for (n, now) in tested.iter().enumerate() {
-        // "and at the end of the input"
-        let next = tested.get(n + 1).map_or(Kind::E, Tested::counts_as);
+        // request 6/13: "A missing next block now counts as C"
+        let next = tested.get(n + 1).map_or(Kind::C, Tested::counts_as);
         // "Not locked or high: state INIT"
         state = if now.up { step(state, kind(&now.block), next) } else { State::Init };
         vectors.extend(answer(state, &now.block));

@@ -13,7 +13,7 @@ use Rattle.diagrams.specs.declared.State.{State}
 use Rattle.diagrams.specs.declared.State.the-variants.{Init, Control, Data, Terminate, Error}
 use Rattle.receiving.specs.Machine.{Tested}
 use Rattle.receiving.specs.Receive.{letsEnd, ends, stateOf, answerIn, judge, answers}
-use Rattle.demands.specs.Words.{isError, legalFrom, isTerminate, endsFrame, lastEndsFrame}
+use Rattle.demands.specs.Words.{isError, legalFrom}
 use Rattle.demands.proofs.Lock.{On}
 
 -- ---- not locked: one Local Fault vector for each block, and the diagram starts anew
@@ -138,13 +138,14 @@ module _ (s : State) (v : List ℕ) (vs : List (List ℕ)) (l : legalFrom s (v �
   unfolding legalFrom
   legal-tail = and-right (not (isError (transmitOf s (vectorKind v)))) (legalFrom (transmitOf s (vectorKind v)) vs) l
 
--- the block after a Terminate lets its frame end
-lets-end : (s : State) (v : List ℕ) (vs : List (List ℕ)) (ts : List Tested) → legalFrom s (v ∷ vs) ≡ true → lastEndsFrame (v ∷ vs) ≡ false
+-- the block after a Terminate lets its frame end, and so does the end of the input
+lets-end : (s : State) (v : List ℕ) (vs : List (List ℕ)) (ts : List Tested) → legalFrom s (v ∷ vs) ≡ true
     → On true ts → Carries vs ts → vectorKind v ≡ T → ends ts ≡ true
-unfolding ends letsEnd lastEndsFrame endsFrame
-lets-end s v [] ts l z o c t = absurd (true≢false (ap isTerminate (sym t) ∙ z))
-lets-end s v (w ∷ vs) [] l z o c t = absurd c
-lets-end s v (w ∷ vs) (u ∷ ts) l z o c t = rw (o .0, c .0) (may-follow (vectorKind w) (legal-head Terminate w vs after))
+unfolding ends letsEnd
+lets-end s v [] [] l o c t = refl
+lets-end s v [] (u ∷ ts) l o c t = absurd c
+lets-end s v (w ∷ vs) [] l o c t = absurd c
+lets-end s v (w ∷ vs) (u ∷ ts) l o c t = rw (o .0, c .0) (may-follow (vectorKind w) (legal-head Terminate w vs after))
   where
     after : legalFrom Terminate (w ∷ vs) ≡ true
     after =
@@ -152,19 +153,13 @@ lets-end s v (w ∷ vs) (u ∷ ts) l z o c t = rw (o .0, c .0) (may-follow (vect
         ∙ ap (λ (k : Kind). legalFrom (transmitOf s k) (w ∷ vs)) (sym t)
         ∙ legal-tail s v (w ∷ vs) l
 
--- the last of the rest is the last of the list
-pub last-tail : (v : List ℕ) (vs : List (List ℕ)) → lastEndsFrame (v ∷ vs) ≡ false → lastEndsFrame vs ≡ false
-unfolding lastEndsFrame
-last-tail v [] z = refl
-last-tail v (w ∷ vs) z = z
-
--- a legal list whose last vector does not end a frame comes back as it is
-pub unchanged : (s : State) (vs : List (List ℕ)) (ts : List Tested) → legalFrom s vs ≡ true → lastEndsFrame vs ≡ false → On true ts → Carries vs ts
+-- a legal list comes back as it is
+pub unchanged : (s : State) (vs : List (List ℕ)) (ts : List Tested) → legalFrom s vs ≡ true → On true ts → Carries vs ts
     → answers s ts ≡ vs
 unfolding answers judge stateOf
-unchanged s [] [] l z o c = refl
-unchanged s [] (t ∷ ts) l z o c = absurd c
-unchanged s (v ∷ vs) [] l z o c = absurd c
-unchanged s (v ∷ vs) (t ∷ ts) l z o c =
-    rw (o .0, c .0, c .1, same-step s (vectorKind v) (ends ts) (lets-end s v vs ts l z (o .1) (c .2)), own s (vectorKind v) v (legal-head s v vs l))
-    (ap (λ (rest : List (List ℕ)). v ∷ rest) (unchanged (transmitOf s (vectorKind v)) vs ts (legal-tail s v vs l) (last-tail v vs z) (o .1) (c .2)))
+unchanged s [] [] l o c = refl
+unchanged s [] (t ∷ ts) l o c = absurd c
+unchanged s (v ∷ vs) [] l o c = absurd c
+unchanged s (v ∷ vs) (t ∷ ts) l o c =
+    rw (o .0, c .0, c .1, same-step s (vectorKind v) (ends ts) (lets-end s v vs ts l (o .1) (c .2)), own s (vectorKind v) v (legal-head s v vs l))
+    (ap (λ (rest : List (List ℕ)). v ∷ rest) (unchanged (transmitOf s (vectorKind v)) vs ts (legal-tail s v vs l) (o .1) (c .2)))

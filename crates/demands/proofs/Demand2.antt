@@ -25,14 +25,14 @@ use Rattle.receiving.specs.Receive as Receive
 use Rattle.receiving.specs.Receive.{answers}
 use Rattle.receiving.specs.Answer.{summaryOf}
 use Rattle.receiving.specs.declared.Link.{Link}
-use Rattle.demands.specs.Words.{accepts, legal, legalFrom, isControl, controlVector, controlVectors, lastEndsFrame, Unbroken}
+use Rattle.demands.specs.Words.{accepts, legal, legalFrom, isControl, controlVector, controlVectors, Unbroken}
 use Rattle.demands.specs.Demand2.{Returnable, faults, Demand2}
 use Rattle.demands.proofs.Line.{AllFit}
 use Rattle.demands.proofs.Runs.{testedAll, valids, length-tested}
 use Rattle.demands.proofs.Lock.{invalids, FirstValid, Locks, lock-by-64}
 use Rattle.demands.proofs.Fresh.{fresh-vectors, fresh-summary}
 use Rattle.demands.proofs.Descrambling.{Reads, reads, lineBlocks, line-words, length-line, line-valids, line-fits, late-start}
-use Rattle.demands.proofs.Answers.{Carries, not-locked, unchanged, legal-tail, last-tail, and-left, and-right}
+use Rattle.demands.proofs.Answers.{Carries, not-locked, unchanged, legal-tail, and-left, and-right}
 use Rattle.demands.proofs.Sent.{Vectors, sent-fit, sent-valid, sent-first, carried}
 use Rattle.demands.proofs.Accepted.{four-each, ten-each, vectors-well, drop-vectors, flat-vectors}
 
@@ -73,12 +73,6 @@ control-less zero vs c = refl
 control-less (suc n) [] c = refl
 control-less (suc n) (v ∷ vs) c =
     ap₂ _&&_ (and-left (controlVector v) (controlVectors (take (suc n) vs)) c) (control-less n vs (and-right (controlVector v) (controlVectors (take (suc n) vs)) c))
-
--- the last of what is left is the last of the list
-last-drop : (n : ℕ) (vs : List (List ℕ)) → lastEndsFrame vs ≡ false → lastEndsFrame (drop n vs) ≡ false
-last-drop zero vs z = z
-last-drop (suc n) [] z = z
-last-drop (suc n) (v ∷ vs) z = last-drop n vs (last-tail v vs z)
 
 -- what is left of the list is carried by what is left of the blocks
 carries-drop : (n : ℕ) (vs : List (List ℕ)) (ts : List Tested) → Carries vs ts → Carries (drop n vs) (drop n ts)
@@ -164,7 +158,7 @@ module _ (bytes : List ℕ) (start room : ℕ) (ok : accepts bytes start room) (
   -- from block 63 on the vectors come back
   back : answers Init (drop 63 ts) ≡ drop 63 vs
   back =
-      unchanged Init (drop 63 vs) (drop 63 ts) (legal-drop 63 vs (control-less 63 vs (list .starts-with-control)) (list .is-legal)) (last-drop 63 vs (list .ends-no-frame)) (locks .after)
+      unchanged Init (drop 63 vs) (drop 63 ts) (legal-drop 63 vs (control-less 63 vs (list .starts-with-control)) (list .is-legal)) (locks .after)
       (carries-late 62 linkFresh (mirror start) vs (omega arith) (mirror-lt start) (vectors-well bytes start room ok) (list .is-legal))
 
   -- the vectors

@@ -1,4 +1,4 @@
--- There are lists that demand 2 speaks of: 64 vectors of idles, a frame of three vectors, and idles again.
+-- There are lists that demand 2 speaks of: 65 vectors of idles and a frame of three vectors, the last of which ends it.
 use mathlib.Core.Path.{refl}
 use mathlib.Core.List.{List, [], _∷_, _++_, flatten}
 use Prim.Native.Nat.{ℕ}
@@ -9,7 +9,7 @@ use Rattle.block.specs.Block.{carrier, vectorKind, highFrom, highControl}
 use Rattle.diagrams.specs.Diagram.{diagramOf, afterIdle, afterData, afterError}
 use Rattle.sending.specs.Send.{vectorsIn, vectorsOf}
 use Rattle.sending.specs.Answer.{sendChecks}
-use Rattle.demands.specs.Words.{accepts, legalFrom, controlVector, controlVectors, endsFrame, lastEndsFrame}
+use Rattle.demands.specs.Words.{accepts, legalFrom, controlVector, controlVectors}
 use Rattle.demands.specs.Demand2.{Returnable, Returned}
 use Rattle.demands.proofs.Demand2.{demand-2}
 
@@ -27,7 +27,7 @@ frame =
 
 -- the bytes of the list
 bytes : List ℕ
-bytes = flatten (replicate 64 idle ++ frame ++ idle ∷ [])
+bytes = flatten (replicate 65 idle ++ frame)
 
 -- sending accepts them
 taken : accepts bytes 0 561
@@ -36,8 +36,8 @@ taken = refl
 
 -- the demand speaks of them
 returnable : Returnable (vectorsOf bytes)
-unfolding bytes flatten vectorsIn vectorKind carrier legalFrom controlVectors controlVector lastEndsFrame endsFrame diagramOf afterIdle afterData afterError
-returnable = record { is-legal = refl; long = lit≤ tt; starts-with-control = refl; ends-no-frame = refl }
+unfolding bytes flatten vectorsIn vectorKind carrier legalFrom controlVectors controlVector diagramOf afterIdle afterData afterError
+returnable = record { is-legal = refl; long = lit≤ tt; starts-with-control = refl }
 
 -- so they come back
 returned : Returned bytes 0

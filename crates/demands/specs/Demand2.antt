@@ -1,9 +1,10 @@
--- Demand 2, the round trip. For every list of vectors that sending accepts, from any start state that it allows, that is legal, whose
--- first 64 vectors are control vectors and whose last does not end a frame: a fresh receiver over the sent line gives 63 Local Fault
--- vectors and then the list from vector 63 on, unchanged; tested is the number of vectors, slips 0, locked 1 and high 0.
+-- Demand 2, the round trip. For every list of vectors that sending accepts, from any start state that it allows, that is legal and whose
+-- first 64 vectors are control vectors: a fresh receiver over the sent line gives 63 Local Fault vectors and then the list from vector 63
+-- on, unchanged; tested is the number of vectors, slips 0, locked 1 and high 0. (Document 02, 6/13: "Demand 2's condition on the last vector is
+-- dropped".)
 use Prim.Native.Nat.{ℕ, _*_, _/_, _≤_}
 use mathlib.Core.Path.{_≡_}
-use mathlib.Core.Bool.{true, false}
+use mathlib.Core.Bool.{true}
 use mathlib.Core.List.{List, _++_, flatten}
 use lib.ListN.{length, take, drop, replicate}
 use Rattle.block.specs.Block.{localFaultVector}
@@ -14,15 +15,14 @@ use Rattle.receiving.specs.Receive as Receive
 use Rattle.receiving.specs.Answer.{summaryOf}
 use Rattle.receiving.specs.declared.Received.{Received}
 use Rattle.receiving.specs.declared.Received.the-variants as Received
-use Rattle.demands.specs.Words.{accepts, legal, controlVectors, lastEndsFrame, Unbroken}
+use Rattle.demands.specs.Words.{accepts, legal, controlVectors, Unbroken}
 use Rattle.demands.specs.Promises.{Sends, Receives}
 
--- the lists that the demand speaks of: legal, the first 64 control vectors (so there are 64), the last not the end of a frame
+-- the lists that the demand speaks of: legal, the first 64 control vectors (so there are 64)
 pub record Returnable (vectors : List (List ℕ)) : Type 0 where
   pub is-legal : legal vectors ≡ true
   pub long : 64 ≤ length vectors
   pub starts-with-control : controlVectors (take 64 vectors) ≡ true
-  pub ends-no-frame : lastEndsFrame vectors ≡ false
 
 -- 63 Local Fault vectors
 abbrev pub faults : List (List ℕ)

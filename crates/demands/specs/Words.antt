@@ -35,20 +35,13 @@ legalFrom s (v ∷ vs) =
 abbrev pub legal : List (List ℕ) → Bool
 legal vectors = legalFrom Init vectors
 
--- kind C, and kind T
+-- kind C
 abbrev pub isControl : Kind → Bool
 isControl D = false
 isControl C = true
 isControl S = false
 isControl T = false
 isControl E = false
-
-abbrev pub isTerminate : Kind → Bool
-isTerminate D = false
-isTerminate C = false
-isTerminate S = false
-isTerminate T = true
-isTerminate E = false
 
 -- "A control vector is one of kind C."
 unfoldable pub controlVector : List ℕ → Bool
@@ -58,16 +51,6 @@ controlVector v = isControl (vectorKind v)
 unfoldable pub controlVectors : List (List ℕ) → Bool
 controlVectors [] = true
 controlVectors (v ∷ vs) = controlVector v && controlVectors vs
-
--- A vector ends a frame when it is one of kind T.
-unfoldable pub endsFrame : List ℕ → Bool
-endsFrame v = isTerminate (vectorKind v)
-
--- whether the last vector of a list ends a frame
-unfoldable pub lastEndsFrame : List (List ℕ) → Bool
-lastEndsFrame [] = false
-lastEndsFrame (v ∷ []) = endsFrame v
-lastEndsFrame (v ∷ w ∷ vs) = lastEndsFrame (w ∷ vs)
 
 -- a summary of n blocks tested with no slip, a vector for each, that leave the receiver locked and not high
 pub record Unbroken (n : ℕ) (s : Summary) : Type 0 where

@@ -106,8 +106,11 @@ answered line room summary room′ summary′ answer l e r s =
     )
 
 -- the words, with the flags as they were made
-pub flagged : (s : Summary) (l h : ℕ) (rest summary : List ℕ) → l ≡ flagWord (s .locked) → h ≡ flagWord (s .high)
-    → summary ≡ summaryBytes (s .counts .tested ∷ s .counts .slips ∷ l ∷ h ∷ s .vectors ∷ s .counts .headers ∷ s .counts .types ∷ s .counts .codes ∷ s .counts .sets ∷ []) ++ rest
-    → summary ≡ summaryBytes (receiveWords (received s)) ++ rest
-flagged s l h rest summary e f put =
-    put ∙ ap₂ (λ (x y : ℕ). summaryBytes (s .counts .tested ∷ s .counts .slips ∷ x ∷ y ∷ s .vectors ∷ s .counts .headers ∷ s .counts .types ∷ s .counts .codes ∷ s .counts .sets ∷ []) ++ rest) e f
+abbrev words : Summary → (l h a : ℕ) → List ℕ
+words s l h a =
+    s .counts .tested ∷ s .counts .slips ∷ l ∷ h ∷ s .vectors ∷ s .counts .headers ∷ s .counts .types ∷ s .counts .codes ∷ s .counts .sets ∷ a ∷ []
+
+pub flagged : (s : Summary) (l h a : ℕ) (rest summary : List ℕ) → l ≡ flagWord (s .locked) → h ≡ flagWord (s .high) → a ≡ flagWord (s .alone)
+    → summary ≡ summaryBytes (words s l h a) ++ rest → summary ≡ summaryBytes (receiveWords (received s)) ++ rest
+flagged s l h a rest summary e f g put =
+    put ∙ ap₂ (λ (x y : ℕ). summaryBytes (words s x y a) ++ rest) e f ∙ ap (λ (z : ℕ). summaryBytes (words s (flagWord (s .locked)) (flagWord (s .high)) z) ++ rest) g

@@ -57,9 +57,9 @@ sendSummary vectors start room summary = summaryWith 3 (sendWords (Send.sendAnsw
 
 -- ---- receiving: refusal 1, then 4 for the summary or the room
 
--- its summary has nine words
+-- its summary has ten words
 abbrev pub receiveLength : ℕ
-receiveLength = 9
+receiveLength = 10
 
 unfoldable pub receiveVerdict : (line room summary : ℕ) → Verdict
 receiveVerdict line room summary = first (after 1 (check 4 (tooShort receiveLength summary)) (Receive.receiveChecks line room))
@@ -68,11 +68,12 @@ receiveVerdict line room summary = first (after 1 (check 4 (tooShort receiveLeng
 abbrev pub flagWord : Bool → ℕ
 flagWord b = cond b 1 0
 
--- tested, slips, locked, high, vectors; header, type, control code and ordered set code faults; zeros for a refusal
+-- tested, slips, locked, high, vectors; header, type, control code and ordered set code faults; the flag of the last vector; zeros for a
+-- refusal
 abbrev pub receiveWords : Receive.ReceiveAnswer → List ℕ
 receiveWords (Receive.received s) =
     s .counts .tested ∷ s .counts .slips ∷ flagWord (s .locked) ∷ flagWord (s .high) ∷ s .vectors
-    ∷ s .counts .headers ∷ s .counts .types ∷ s .counts .codes ∷ s .counts .sets ∷ []
+    ∷ s .counts .headers ∷ s .counts .types ∷ s .counts .codes ∷ s .counts .sets ∷ flagWord (s .alone) ∷ []
 receiveWords (Receive.refused number place) = replicate receiveLength 0
 
 unfoldable pub receiveResult : (line room summary : ℕ) → ℕ

@@ -80,7 +80,7 @@ pub extern "C" fn holzmotte_send(
 
 // The result where the summary is too short: what receiving into no room is refused for, or else 4.
 fn receive_short(line: &[u8]) -> u64
-    ensures { λ r. ⌜ ((room summary : ℕ) → summary < 72 → r ≡ receiveResult (length (now (line .entry))) room summary) ⌝ }
+    ensures { λ r. ⌜ ((room summary : ℕ) → summary < 80 → r ≡ receiveResult (length (now (line .entry))) room summary) ⌝ }
 {
     let mut none = [0u8; 0];
     match receive(line, &mut none) {
@@ -89,14 +89,14 @@ fn receive_short(line: &[u8]) -> u64
     }
 }
 
-// Receives a line: a vector for each tested block goes to the room, nine words to the summary.
+// Receives a line: a vector for each tested block goes to the room, ten words to the summary.
 #[no_mangle]
 pub extern "C" fn holzmotte_receive(line: &[u8], vectors: &mut [u8], summary: &mut [u8]) -> u64
     ensures { λ r. ⌜ r ≡ receiveResult (length (now (line .entry))) (length (now (vectors .entry))) (length (now (summary .entry))) ⌝ }
     ensures { λ _. ⌜ now (vectors .exit) ≡ receiveVectors (now (line .entry)) (now (vectors .entry)) (length (now (summary .entry))) ⌝ }
     ensures { λ _. ⌜ now (summary .exit) ≡ receiveSummary (now (line .entry)) (length (now (vectors .entry))) (now (summary .entry)) ⌝ }
 {
-    if summary.len() < 72 {
+    if summary.len() < 80 {
         return receive_short(line);
     }
     match receive(line, vectors) {
@@ -114,12 +114,13 @@ pub extern "C" fn holzmotte_receive(line: &[u8], vectors: &mut [u8], summary: &m
                     c.types,
                     c.codes,
                     c.sets,
+                    flag(s.alone),
                 ],
             );
             0
         }
         Received::Refused(why, place) => {
-            put_words(summary, &[0; 9]);
+            put_words(summary, &[0; 10]);
             refusal(why, place)
         }
     }

@@ -1,7 +1,7 @@
 -- A whole line, from a fresh receiver to the vector of the last block. Assumes nothing.
 use Prim.Native.Nat.{ℕ, _+_, _*_, _/_, _≤_}
 use mathlib.Core.Path.{_≡_, sym, ap, ap₂, _∙_}
-use mathlib.Core.Bool.{false}
+use mathlib.Core.Bool.{Bool, true, false, cond}
 use mathlib.Core.List.{List, _++_, append-assoc}
 use native.Mathlib.Omega.{arith}
 use lib.ListN.{length, take, drop, length-append}
@@ -10,14 +10,14 @@ use Rattle.bits.specs.Bits.{lineBits}
 use Rattle.diagrams.specs.declared.State.{State}
 use Rattle.diagrams.specs.declared.State.the-variants.{Init}
 use Rattle.receiving.specs.Machine.{Feed, Run, Tested, run}
-use Rattle.receiving.specs.Receive.{judge, answers, countsOf, runOf, vectorsOf, receivedVectors}
+use Rattle.receiving.specs.Receive.{judge, isTerminate, judgedAlone, answers, countsOf, runOf, vectorsOf, receivedVectors}
 use Rattle.receiving.specs.Answer.{summaryOf}
-use Rattle.receiving.specs.Loop.{heldIn, feedIn, settle, bytesOf, Settled, Fresh, Ends, written, heldBytes}
+use Rattle.receiving.specs.Loop.{heldIn, feedIn, settle, bytesOf, Settled, Fresh, Ends, written, heldState, heldBytes}
 use Rattle.receiving.specs.declared.Summary.{Summary}
 use Rattle.receiving.specs.declared.Receiver.{Receiver}
 use Rattle.receiving.specs.declared.Progress.{Progress}
 use Rattle.receiving.proofs.Count.{length-answers, vectors-fit}
-use Rattle.receiving.proofs.Settle.{settled, last-bytes, bytes-append}
+use Rattle.receiving.proofs.Settle.{held-same, settled, last-bytes, bytes-append, alone-settled, alone-held}
 
 module _ (line room : List ℕ) (r : Receiver) (f : Fresh r) (enough : 10 * (8 * length line / 66) ≤ length room) where
   -- a fresh receiver's run is that of the definition
@@ -55,7 +55,7 @@ module _ (line room : List ℕ) (r : Receiver) (f : Fresh r) (enough : 10 * (8 *
   module _ (room₁ : List ℕ) (p : Progress) (e : Ends line room room₁ r p) where
     -- the bytes of the last block
     abbrev pub last : List ℕ
-    last = heldBytes (p .receiver .have) (p .receiver .state) (p .receiver .held) false
+    last = heldBytes (p .receiver .have) (p .receiver .state) (p .receiver .held) true
 
     -- the vectors of the line: what the loop wrote, and these
     all-are : receivedVectors line ≡ take (p .at) room₁ ++ last
@@ -73,9 +73,10 @@ module _ (line room : List ℕ) (r : Receiver) (f : Fresh r) (enough : 10 * (8 *
         ap length all-are ∙ length-append (take (p .at) room₁) last
         ∙ ap (λ (n : ℕ). n + length last) (length-take-le (p .at) room₁ (omega (arith, e .at, e .len)))
 
-    -- the last vector fits the room
-    pub last-fits : p .at + length last ≤ length room₁
-    last-fits = omega (arith, all-length, vectors-fit line, e .len)
+    -- the last vector fits the room, whichever it is
+    pub last-fits : (ends : Bool) → p .at + length (heldBytes (p .receiver .have) (p .receiver .state) (p .receiver .held) ends) ≤ length room₁
+    last-fits ends =
+        omega (arith, all-length, vectors-fit line, e .len, held-same (p .receiver .have) (p .receiver .state) (p .receiver .held) ends true)
 
     -- the room, once it is written
     pub room-is : (room₂ : List ℕ) → room₂ ≡ take (p .at) room₁ ++ (last ++ drop (p .at + length last) room₁)
@@ -86,12 +87,26 @@ module _ (line room : List ℕ) (r : Receiver) (f : Fresh r) (enough : 10 * (8 *
         (sym (drop-drop (length last) (p .at) room₁) ∙ ap (drop (length last)) (e .rest) ∙ drop-drop (length last) (p .at) room
         ∙ ap (λ (n : ℕ). drop n room) (sym all-length))
 
-    -- the counts are those of the definition
-    pub summary-is : _≡_ {A = Summary}
-        (record { counts = p .counts; locked = p .receiver .link .lock .locked; high = p .receiver .link .rate .high; vectors = p .counts .tested })
+    -- whether the last block is judged alone
+    alone-is : (s : State) (alone : Bool)
+        → s ≡ heldState (p .receiver .have) (p .receiver .state) (p .receiver .held) true → alone ≡ cond (p .receiver .have) (isTerminate s) false
+        → alone ≡ judgedAlone (judge Init (runOf line .tested))
+    unfolding heldIn
+    alone-is s alone es ea =
+        ea ∙ ap (λ (z : State). cond (p .receiver .have) (isTerminate z) false) es
+        ∙ alone-held (p .receiver .have) (p .receiver .state) (p .receiver .held)
+        ∙ ap₂ (λ (z : State) (h : List Tested). judgedAlone (judge z h)) (e .state) (e .held)
+        ∙ ap (λ (z : Settled). judgedAlone (judge (z .state) (z .held))) settle-is
+        ∙ sym (alone-settled Init (runOf line .tested))
+
+    -- the summary is that of the definition
+    pub summary-is : (s : State) (alone : Bool)
+        → s ≡ heldState (p .receiver .have) (p .receiver .state) (p .receiver .held) true → alone ≡ cond (p .receiver .have) (isTerminate s) false
+        → _≡_ {A = Summary}
+        (record { counts = p .counts; locked = p .receiver .link .lock .locked; high = p .receiver .link .rate .high; vectors = p .counts .tested; alone = alone })
         (summaryOf line)
     unfolding summaryOf countsOf vectorsOf feedIn
-    summary-is =
+    summary-is s alone es ea =
         let n : p .counts ≡ countsOf (runOf line .tested) = e .counts ∙ ap (λ (z : Run). countsOf (z .tested)) run-is in
         let l : p .receiver .link ≡ runOf line .end .link = ap (λ (z : Feed). z .link) (e .feed) ∙ ap (λ (z : Run). z .end .link) run-is in
-        rw (n, l, length-answers)
+        rw (n, l, length-answers, alone-is s alone es ea)

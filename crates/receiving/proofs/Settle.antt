@@ -11,7 +11,7 @@ use Rattle.decoding.specs.Vector.{vectorBytes}
 use Rattle.decoding.specs.declared.Vector.{Vector}
 use Rattle.diagrams.specs.declared.State.{State}
 use Rattle.receiving.specs.Machine.{Tested}
-use Rattle.receiving.specs.Receive.{letsEnd, ends, stateOf, answerIn, Judged, judge, answer}
+use Rattle.receiving.specs.Receive.{letsEnd, ends, stateOf, answerIn, Judged, judge, answer, isTerminate, lastIs, judgedAlone}
 use Rattle.receiving.specs.Loop.{testedIn, Settled, settle, bytesOf, heldState, heldBytes}
 use Rattle.receiving.specs.declared.Held.{Held}
 use Rattle.receiving.proofs.Count.{length-answer}
@@ -49,6 +49,11 @@ module _ (room xs : List ℕ) (at : ℕ) (fits : at + length xs ≤ length room)
 -- the bytes of a block that is held are ten
 pub held-ten : (s : State) (h : Held) (e : Bool) → length (heldBytes true s h e) ≡ 10
 held-ten s h e = length-answer (stateOf s (testedIn h) e) (vectorBytes (h .vector)) refl
+
+-- so many whatever the next block is
+pub held-same : (have : Bool) (s : State) (h : Held) (e e′ : Bool) → length (heldBytes have s h e) ≡ length (heldBytes have s h e′)
+held-same true s h e e′ = held-ten s h e ∙ sym (held-ten s h e′)
+held-same false s h e e′ = refl
 
 -- what answering it does to the room
 pub held-put : (have : Bool) (s : State) (h : Held) (e : Bool) (room room′ : List ℕ) (at : ℕ) (s′ : State) (v : Vector)
@@ -129,7 +134,7 @@ settle-append s (t ∷ u ∷ a) b =
     ap (λ (z : Settled). record { judged = record { state = s′; block = t } ∷ z .judged; state = z .state; held = z .held }) (settle-append s′ (u ∷ a) b)
 
 -- the vector of the block held at the end of the input
-pub last-bytes : (have : Bool) (s : State) (h : Held) → bytesOf (judge s (holding have h)) ≡ heldBytes have s h false
+pub last-bytes : (have : Bool) (s : State) (h : Held) → bytesOf (judge s (holding have h)) ≡ heldBytes have s h true
 unfolding judge ends flatten testedIn
 last-bytes true s h = append-nil _
 last-bytes false s h = refl
@@ -139,3 +144,18 @@ pub bytes-append : (a b : List Judged) → bytesOf (a ++ b) ≡ bytesOf a ++ byt
 unfolding flatten
 bytes-append [] b = refl
 bytes-append (j ∷ a) b = ap (λ (l : List ℕ). answer j ++ l) (bytes-append a b) ∙ sym (append-assoc (answer j) (bytesOf a) (bytesOf b))
+
+-- ---- the last block
+
+-- whether it is judged alone is seen of the block held
+pub alone-settled : (s : State) (ts : List Tested) → judgedAlone (judge s ts) ≡ judgedAlone (judge (settle s ts .state) (settle s ts .held))
+unfolding judge settle ends lastIs
+alone-settled s [] = refl
+alone-settled s (t ∷ []) = refl
+alone-settled s (t ∷ u ∷ ts) = alone-settled (stateOf s t (letsEnd u)) (u ∷ ts)
+
+-- by its state
+pub alone-held : (have : Bool) (s : State) (h : Held) → cond have (isTerminate (heldState have s h true)) false ≡ judgedAlone (judge s (holding have h))
+unfolding judge ends lastIs
+alone-held true s h = refl
+alone-held false s h = refl

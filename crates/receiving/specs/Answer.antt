@@ -5,7 +5,8 @@ use lib.ListN.{length, drop}
 use lib.Dec.{ltb}
 use Rattle.refusals.specs.Number.{numberOf}
 use Rattle.refusals.specs.First.{Check, check, first, byVerdict}
-use Rattle.receiving.specs.Receive.{runOf, countsOf, vectorsOf, receivedVectors}
+use Rattle.receiving.specs.Receive.{judge, judgedAlone, runOf, countsOf, vectorsOf, receivedVectors}
+use Rattle.diagrams.specs.declared.State.the-variants.{Init}
 use Rattle.receiving.specs.declared.Summary.{Summary}
 use Rattle.receiving.specs.declared.Received.{Received}
 use Rattle.receiving.specs.declared.Received.the-variants.{Done, Refused}
@@ -14,7 +15,8 @@ use Rattle.receiving.specs.declared.Received.the-variants.{Done, Refused
 unfoldable pub receiveChecks : (line room : ℕ) → List Check
 receiveChecks line room = check 1 (ltb 825000 line) ∷ check 4 (ltb room (10 * (8 * line / 66))) ∷ []
 
--- "Receiving returns tested, slips, locked, high and the number of vectors": the summary of a line that is not refused
+-- "Receiving returns tested, slips, locked, high and the number of vectors", and by document 02 the reasons (1/13) and the flag of the last
+-- vector (6/13): the summary of a line that is not refused
 unfoldable pub summaryOf : List ℕ → Summary
 summaryOf line =
     record {
@@ -22,6 +24,7 @@ summaryOf line =
       locked = runOf line .end .link .lock .locked;
       high = runOf line .end .link .rate .high;
       vectors = length (vectorsOf line);
+      alone = judgedAlone (judge Init (runOf line .tested));
     }
 
 -- a summary; or a refusal's number and place

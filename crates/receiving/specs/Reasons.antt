@@ -1,6 +1,6 @@
 -- Document 02, 1/13, as its laws speak of it: the blocks of a line as they were taken, and the vectors by document 01's kinds alone.
 use Prim.Native.Nat.{ℕ, _+_}
-use mathlib.Core.Bool.{Bool, false, cond, not, _&&_}
+use mathlib.Core.Bool.{Bool, true, cond, not, _&&_}
 use mathlib.Core.List.{List, [], _∷_, _++_}
 use Rattle.bits.specs.Bits.{lineBits}
 use Rattle.scrambler.specs.Scrambler.{descrambled}
@@ -50,9 +50,9 @@ takenOn t = let l = linkOf (t .link) (t .header) (t .payload) in l .lock .locked
 abbrev pub faults : Counts → ℕ
 faults c = c .headers + c .types + c .codes + c .sets
 
--- "The vectors handed out stay as they are": document 01's Receive, by the kinds alone
+-- "The vectors handed out stay as they are": document 01's Receive with 6/13's missing next block, by the kinds alone
 abbrev pub endsByKind : List Taken → Bool
-endsByKind [] = false
+endsByKind [] = true
 endsByKind (t ∷ ts) = takenOn t && follows (takenKind t)
 
 abbrev pub stateByKind : State → Taken → Bool → State

@@ -1,6 +1,6 @@
 -- Document 01, 'Diagrams', Receive: the diagram over the tested blocks, with a look at the next.
 use Prim.Native.Nat.{ℕ, _+_}
-use mathlib.Core.Bool.{Bool, false, cond, _&&_}
+use mathlib.Core.Bool.{Bool, true, false, cond, _&&_}
 use mathlib.Core.List.{List, [], _∷_, map, flatten}
 use lib.ListN.{length}
 use lib.Dec.{eqb}
@@ -16,12 +16,13 @@ use Rattle.diagrams.specs.declared.State.the-variants.{Init, Control, Data, Ter
 use Rattle.receiving.specs.Machine.{Tested, Run, run, at, linkFresh}
 use Rattle.receiving.specs.declared.Counts.{Counts}
 
--- Whether the next block is S or C: it "counts as E if testing it leaves the receiver not locked or high, and at the end of the input".
+-- Whether the next block is S or C: it "counts as E if testing it leaves the receiver not locked or high". Document 02, 6/13: "A missing next
+-- block now counts as C", where document 01 had it as E.
 unfoldable pub letsEnd : Tested → Bool
 letsEnd t = t .on && follows (kindIn (t .class))
 
 unfoldable pub ends : List Tested → Bool
-ends [] = false
+ends [] = true
 ends (t ∷ ts) = letsEnd t
 
 -- "Not locked or high: state INIT .. Else" the diagram's step
@@ -54,6 +55,24 @@ answer j = answerIn (j .state) (j .block .vector)
 
 unfoldable pub answers : State → List Tested → List (List ℕ)
 answers s ts = map answer (judge s ts)
+
+-- state T of the diagram
+abbrev pub isTerminate : State → Bool
+isTerminate Init = false
+isTerminate Control = false
+isTerminate Data = false
+isTerminate Terminate = true
+isTerminate Error = false
+
+-- whether the last element of a list passes a test; not where there is none
+unfoldable pub lastIs : {A : Type 0} → (A → Bool) → List A → Bool
+lastIs test [] = false
+lastIs test (x ∷ []) = test x
+lastIs test (x ∷ y ∷ xs) = lastIs test (y ∷ xs)
+
+-- Document 02, 6/13: "a flag that the last vector was judged without its successor, set exactly when it is an accepted Terminate"
+abbrev pub judgedAlone : List Judged → Bool
+judgedAlone js = lastIs (λ j. isTerminate (j .state)) js
 
 -- ---- the counts
 

@@ -3,11 +3,12 @@ use crate::Held;
 use decoding::Vector;
 use diagrams::State;
 ghost use mathlib.Core.Path.{_≡_};
+ghost use mathlib.Core.Bool.{cond, false};
 ghost use mathlib.Core.List.{_++_};
 ghost use Prim.Native.Nat.{_+_, _≤_};
 ghost use lib.ListN.{length, take, drop};
 ghost use Rattle.decoding.specs.Vector.{vectorBytes};
-ghost use Rattle.receiving.specs.Receive.{letsEnd, stateOf, answerIn};
+ghost use Rattle.receiving.specs.Receive.{letsEnd, stateOf, answerIn, isTerminate};
 ghost use Rattle.receiving.specs.Loop.{testedIn, heldState, heldBytes};
 
 // Whether the block before may end its frame: this one was tested in lock and not high, and is S or C.
@@ -55,6 +56,26 @@ fn answer_in(s: State, v: Vector) -> Vector
         State::Data => v,
         State::Terminate => v,
     }
+}
+
+// State T.
+fn is_terminate(s: State) -> bool
+    ensures { λ r. ⌜ r ≡ isTerminate s ⌝ }
+{
+    match s {
+        State::Terminate => true,
+        State::Init => false,
+        State::Control => false,
+        State::Data => false,
+        State::Error => false,
+    }
+}
+
+// Whether the last block, if there is one, was judged without its successor: it ended a frame.
+pub fn judged_alone(have: bool, s: State) -> bool
+    ensures { λ r. ⌜ r ≡ cond have (isTerminate s) false ⌝ }
+{
+    if have { is_terminate(s) } else { false }
 }
 
 // The diagram's state, and where the room goes on.

@@ -43,12 +43,14 @@ pub struct Counts {
     pub sets: u64,
 }
 
-// What receiving returns.
+// What receiving returns: the counts, lock and error rate at the end, the number of vectors, and whether the last of them was judged
+// without its successor.
 pub struct Summary {
     pub counts: Counts,
     pub locked: bool,
     pub high: bool,
     pub vectors: u64,
+    pub alone: bool,
 }
 
 pub enum Received {
@@ -222,13 +224,17 @@ fn receive_with(t: &[u16; 3170], y: &[u8; 256], line: &[u8], room: &mut [u8]) ->
     let rate = link.rate;
     let state = r.state;
     let held = r.held;
-    answering::settle_held(room, at, r.have, state, held, false);
+    let have = r.have;
+    let last = answering::settle_held(room, at, have, state, held, true);
+    let state = last.state;
+    let alone = answering::judged_alone(have, state);
     let counts = p.counts;
     Received::Done(Summary {
         counts: counts,
         locked: lock.locked,
         high: rate.high,
         vectors: counts.tested,
+        alone: alone,
     })
 }
 

@@ -30,6 +30,9 @@ flag-requires c κs = search needs
 flag-requires-2 : tie.Need-flag-requires-2
 flag-requires-2 c κs = search needs
 
+flag-requires-3 : tie.Need-flag-requires-3
+flag-requires-3 c κs = search needs
+
 slice-aggregate-put-words : tie.Need-slice-aggregate-put-words
 slice-aggregate-put-words c = search needs
 
@@ -58,11 +61,11 @@ same-length-2 c = search needs
 
 returns-2 : tie.Need-returns-2
 returns-2 c =
-    let a = c .before .before .before .before .before .before .before .before .before .before .before .before .before .before .before .before .before .before .before .args in
-    let s = c .before .before .before .before .before .before .before .before .before .s .given .0 .0 in
+    let a = c .before .before .before .before .before .before .before .before .before .before .before .before .before .before .before .before .before .before .before .before .args in
+    let s = c .before .before .before .before .before .before .before .before .before .before .s .given .0 .0 in
     let t =
-    answered (now (a .line)) (now (a .vectors)) (now (a .summary)) _ _ _ (c .before .before .before .before .before .before .before .before .before .before .before .before .before .before .before .if1 .left) (sym (ap answerOf (c .before .before .before .before .before .before .before .before .before .s .given .1)) ∙ c .before .before .before .before .before .before .before .before .before .before .before .before .before .receive .ensures .0) (c .before .before .before .before .before .before .before .before .before .before .before .before .before .receive .ensures .1)
-    (flagged s (c .before .before .before .before .before .flag .result) (c .before .before .before .before .flag2 .result) (drop 72 (now (a .summary))) _ (c .before .before .before .before .before .flag .ensures) (c .before .before .before .before .flag2 .ensures) (c .before .before .put-words .ensures)) in
+    answered (now (a .line)) (now (a .vectors)) (now (a .summary)) _ _ _ (c .before .before .before .before .before .before .before .before .before .before .before .before .before .before .before .before .if1 .left) (sym (ap answerOf (c .before .before .before .before .before .before .before .before .before .before .s .given .1)) ∙ c .before .before .before .before .before .before .before .before .before .before .before .before .before .before .receive .ensures .0) (c .before .before .before .before .before .before .before .before .before .before .before .before .before .before .receive .ensures .1)
+    (flagged s (c .before .before .before .before .before .before .flag .result) (c .before .before .before .before .before .flag2 .result) (c .before .before .before .before .flag3 .result) (drop 80 (now (a .summary))) _ (c .before .before .before .before .before .before .flag .ensures) (c .before .before .before .before .before .flag2 .ensures) (c .before .before .before .before .flag3 .ensures) (c .before .before .put-words .ensures)) in
     (t .0, (t .1, t .2))
 
 same-length-3 : tie.Need-same-length-3
@@ -87,6 +90,7 @@ holzmotte-receive-spec =
     enum-known-s
     flag-requires
     flag-requires-2
+    flag-requires-3
     slice-aggregate-put-words
     put-words-requires
     enum-known-why

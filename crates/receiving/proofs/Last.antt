@@ -1,0 +1,77 @@
+-- Document 02, 6/13: the flag of the last vector is set "exactly when it is an accepted Terminate". Assumes nothing.
+use mathlib.Core.Path.{_≡_, refl}
+use mathlib.Core.Bool.{Bool, true, false, cond, _&&_}
+use mathlib.Core.List.{List, [], _∷_}
+use Rattle.block.specs.Block.{kindIn}
+use Rattle.block.specs.declared.Kind.{Kind}
+use Rattle.block.specs.declared.Kind.the-variants.{D, C, S, T, E}
+use Rattle.diagrams.specs.Diagram.{afterIdle, afterData, afterError, diagramOf}
+use Rattle.diagrams.specs.declared.State.{State}
+use Rattle.diagrams.specs.declared.State.the-variants.{Init, Control, Data, Terminate, Error}
+use Rattle.receiving.specs.Machine.{Tested}
+use Rattle.receiving.specs.Receive.{ends, stateOf, judge, isTerminate, lastIs, judgedAlone}
+use Rattle.receiving.specs.Last.{isT, decodes, accepted}
+
+-- a step to T is a step by kind T to a state that answers the decoded block
+Fair : Kind → State → Type 0
+Fair k s = isTerminate s ≡ isT k && decodes s
+
+idle : (k : Kind) → Fair k (afterIdle k)
+unfolding Fair afterIdle
+idle D = refl
+idle C = refl
+idle S = refl
+idle T = refl
+idle E = refl
+
+ended : (e : Bool) → Fair T (cond e Terminate Error)
+unfolding Fair
+ended true = refl
+ended false = refl
+
+frame : (k : Kind) (e : Bool) → Fair k (afterData k e)
+unfolding Fair afterData
+frame D e = refl
+frame C e = refl
+frame S e = refl
+frame T e = ended e
+frame E e = refl
+
+error : (k : Kind) (e : Bool) → Fair k (afterError k e)
+unfolding Fair afterError
+error D e = refl
+error C e = refl
+error S e = refl
+error T e = ended e
+error E e = refl
+
+step : (s : State) (k : Kind) (e : Bool) → Fair k (diagramOf s k e)
+unfolding diagramOf
+step Init k e = idle k
+step Control k e = idle k
+step Terminate k e = idle k
+step Data k e = frame k e
+step Error k e = error k e
+
+not-on : (k : Kind) → Fair k Init
+unfolding Fair
+not-on D = refl
+not-on C = refl
+not-on S = refl
+not-on T = refl
+not-on E = refl
+
+-- of a tested block
+fair : (s : State) (t : Tested) (e : Bool) → Fair (kindIn (t .class)) (stateOf s t e)
+unfolding stateOf
+fair s t e = go (t .on)
+  where
+    go : (on : Bool) → Fair (kindIn (t .class)) (cond on (diagramOf s (kindIn (t .class)) e) Init)
+    go true = step s (kindIn (t .class)) e
+    go false = not-on (kindIn (t .class))
+
+pub alone-exactly : (s : State) (ts : List Tested) → judgedAlone (judge s ts) ≡ lastIs accepted (judge s ts)
+unfolding judge lastIs Fair
+alone-exactly s [] = refl
+alone-exactly s (t ∷ []) = fair s t (ends [])
+alone-exactly s (t ∷ u ∷ ts) = alone-exactly (stateOf s t (ends (u ∷ ts))) (u ∷ ts)
