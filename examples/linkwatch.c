@@ -79,7 +79,8 @@ static unsigned long first_lock(void)
     return word(HOLZMOTTE_RECEIVE_TESTED);
 }
 
-/* What a word of the summary has gained since lock first came: a longer beginning of a line counts all that a shorter one does. */
+/* What a word of the summary has gained since lock first came, or all of it without lock: a longer beginning of a line counts all that a
+ * shorter one does. */
 static unsigned long since_lock(enum holzmotte_receive_word i)
 {
     return word(i) - (unsigned long)holzmotte_word(summary_at_lock, i);
@@ -140,29 +141,30 @@ static void print_run(unsigned long from, unsigned long to, unsigned long lock)
     puts("");
 }
 
-/* A bit that is damaged on the way shows at three places of the descrambled line: a little damage may hit codes alone, much of it
- * hits headers and types too. A far sender that sends wrong codes, or error blocks, leaves headers and types whole. The totals show
- * no more than this, and without lock not even this. */
+/* A payload bit that is damaged on the way shows at three places of the descrambled line: a little damage may hit codes alone, much of
+ * it hits headers and types too. A far sender that sends wrong codes, or error blocks, leaves headers and types good. The totals
+ * show no more than this, and without lock not even this. */
 static void print_bad_blocks(unsigned long lock)
 {
     unsigned long header = since_lock(HOLZMOTTE_RECEIVE_HEADER_FAULTS), type = since_lock(HOLZMOTTE_RECEIVE_TYPE_FAULTS);
     unsigned long code = since_lock(HOLZMOTTE_RECEIVE_CONTROL_CODE_FAULTS), set = since_lock(HOLZMOTTE_RECEIVE_SET_CODE_FAULTS);
-    if (lock == 0) {
-        puts("bad blocks: without lock their numbers say nothing about the link");
-        return;
-    }
-    printf("bad blocks after block %lu: ", lock - 1);
+    if (lock == 0)
+        printf("bad blocks: ");
+    else
+        printf("bad blocks after block %lu: ", lock - 1);
     if (header + type + code + set == 0) {
         puts("none");
         return;
     }
     printf("%lu header, %lu type, %lu control code, %lu ordered set code\n", header, type, code, set);
-    if (since_lock(HOLZMOTTE_RECEIVE_SLIPS) > 0)
-        puts("  lock was lost over damaged headers (blocks cut at a wrong place count too): look at the fibre and the transceivers");
+    if (lock == 0)
+        puts("  without lock these numbers say nothing about the link");
+    else if (since_lock(HOLZMOTTE_RECEIVE_SLIPS) > 0)
+        puts("  lock was lost over invalid headers (blocks cut at a wrong place count too): this points to the fibre or a transceiver");
     else if (header + type > 0)
-        puts("  headers or types are damaged: look at the fibre and the transceivers");
+        puts("  headers or types are bad: this points to the fibre or a transceiver");
     else
-        puts("  headers and types are whole, codes are not: if they are many, look at the far sender (its error blocks count too)");
+        puts("  headers and types are good, codes are not: if they are many, this points to the far sender (its error blocks count too)");
 }
 
 static void print_link(unsigned long lock)

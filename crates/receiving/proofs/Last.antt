@@ -10,7 +10,7 @@ use Rattle.diagrams.specs.declared.State.{State}
 use Rattle.diagrams.specs.declared.State.the-variants.{Init, Control, Data, Terminate, Error}
 use Rattle.receiving.specs.Machine.{Tested}
 use Rattle.receiving.specs.Receive.{ends, stateOf, judge, isTerminate, lastIs, judgedAlone}
-use Rattle.receiving.specs.Last.{isT, decodes, accepted}
+use Rattle.receiving.specs.Last.{isT, decodes, acceptedTerminate}
 
 -- a step to T is a step by kind T to a state that answers the decoded block
 Fair : Kind → State → Type 0
@@ -70,7 +70,7 @@ fair s t e = go (t .on)
     go true = step s (kindIn (t .class)) e
     go false = not-on (kindIn (t .class))
 
-pub alone-exactly : (s : State) (ts : List Tested) → judgedAlone (judge s ts) ≡ lastIs accepted (judge s ts)
+pub alone-exactly : (s : State) (ts : List Tested) → judgedAlone (judge s ts) ≡ lastIs acceptedTerminate (judge s ts)
 unfolding judge lastIs Fair
 alone-exactly s [] = refl
 alone-exactly s (t ∷ []) = fair s t (ends [])

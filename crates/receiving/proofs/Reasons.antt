@@ -20,7 +20,7 @@ use Rattle.receiving.specs.Machine.{Tested, Feed, at, headerOf, payloadO
 use Rattle.receiving.specs.Receive.{letsEnd, ends, stateOf, answerIn, judge, answers, howMany, badFor, countsOf, runOf, vectorsOf}
 use Rattle.receiving.specs.Answer.{summaryOf}
 use Rattle.receiving.specs.declared.Link.{Link}
-use Rattle.receiving.specs.Reasons.{Taken, takenAt, takenFrom, takenOf, takenKind, takenVector, takenOn, faults, endsByKind, stateByKind, answersByKind}
+use Rattle.receiving.specs.Reasons.{Taken, takenAt, takenFrom, takenOf, takenKind, takenVector, takenOn, badBlocks, endsByKind, stateByKind, answersByKind}
 
 -- ---- the blocks that are tested are those that were taken
 
@@ -69,16 +69,16 @@ one-reason (Class.Bad BlockType) = refl
 one-reason (Class.Bad ControlCode) = refl
 one-reason (Class.Bad SetCode) = refl
 
-faults-are : (ts : List Taken) → faults (countsOf (map test ts)) ≡ howMany (λ t. isError (takenKind t)) ts
+bad-are : (ts : List Taken) → badBlocks (countsOf (map test ts)) ≡ howMany (λ t. isError (takenKind t)) ts
 unfolding countsOf howMany
-faults-are [] = refl
-faults-are (t ∷ ts) =
-    omega (arith, one-reason (test t .class) ∙ ap (λ (k : Kind). cond (isError k) 1 0) (kind-tested (t .link) (t .header) (t .payload)), faults-are ts)
+bad-are [] = refl
+bad-are (t ∷ ts) =
+    omega (arith, one-reason (test t .class) ∙ ap (λ (k : Kind). cond (isError k) 1 0) (kind-tested (t .link) (t .header) (t .payload)), bad-are ts)
 
 -- of a whole line: they are its tested blocks of kind E
-pub reasons-are-errors : (line : List ℕ) → faults (summaryOf line .counts) ≡ howMany (λ t. isError (takenKind t)) (takenOf line)
+pub reasons-are-errors : (line : List ℕ) → badBlocks (summaryOf line .counts) ≡ howMany (λ t. isError (takenKind t)) (takenOf line)
 unfolding summaryOf
-reasons-are-errors line = ap (λ (ts : List Tested). faults (countsOf ts)) (tested-of line) ∙ faults-are (takenOf line)
+reasons-are-errors line = ap (λ (ts : List Tested). badBlocks (countsOf ts)) (tested-of line) ∙ bad-are (takenOf line)
 
 -- ---- the vectors by document 01's kinds alone
 

@@ -24,5 +24,5 @@ decodes Terminate = true
 decodes Error = false
 
 -- a block of kind T that is answered as decoded
-abbrev pub accepted : Judged → Bool
-accepted j = isT (kindIn (j .block .class)) && decodes (j .state)
+abbrev pub acceptedTerminate : Judged → Bool
+acceptedTerminate j = isT (kindIn (j .block .class)) && decodes (j .state)

@@ -47,8 +47,8 @@ abbrev pub takenOn : Taken → Bool
 takenOn t = let l = linkOf (t .link) (t .header) (t .payload) in l .lock .locked && not (l .rate .high)
 
 -- the four counts together
-abbrev pub faults : Counts → ℕ
-faults c = c .headers + c .types + c .codes + c .sets
+abbrev pub badBlocks : Counts → ℕ
+badBlocks c = c .headers + c .types + c .codes + c .sets
 
 -- "The vectors handed out stay as they are": document 01's Receive with 6/13's missing next block, by the kinds alone
 abbrev pub endsByKind : List Taken → Bool
