@@ -78,10 +78,10 @@ enum holzmotte_send_word {
  *   - An error block that the far end sent (type 1e with eight codes 1e) is a control code fault.
  *   - A good block out of turn, such as data outside a frame, may be answered as the error vector: it counts under none of them.
  *
- * Word 9 speaks of the last vector. In lock, a Terminate that may end a frame is accepted where the next block begins a frame or stands
- * between frames (idles, ordered sets), and answered as the error vector where it does not. Where the line stops, in the middle of the
- * next block too, it is judged as if idles followed, and accepted. Then word 9 is 1: the same line, longer, may show this vector as an
- * error. For any other last vector, a Terminate out of turn too, it is 0. */
+ * Word 9 speaks of the last vector. While the receiver is locked and the error rate not high, a Terminate that may end a frame is
+ * accepted where the next block begins a frame or stands between frames (idles, ordered sets), and answered as the error vector where
+ * it does not. Where the line stops, in the middle of the next block too, it is judged as if idles followed, and accepted. Then word 9
+ * is 1: the same line, longer, may show this vector as an error. For any other last vector, a Terminate out of turn too, it is 0. */
 enum holzmotte_receive_word {
     HOLZMOTTE_RECEIVE_TESTED = 0,              /* blocks whose header was tested */
     HOLZMOTTE_RECEIVE_SLIPS = 1,               /* slips: one line bit skipped for each, in search of lock */
