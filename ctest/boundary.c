@@ -46,10 +46,19 @@ static int all(const uint8_t *p, size_t n, uint8_t b)
 
 #define ROOM 0xa5
 #define SUMMARY 0x5a
+#define COUNTERS 0xc3
 
-/* The buffers of one call: `in` is read, `out` and `summary` are lent and end at a protected page. */
-static uint8_t *in, *out, *summary;
-static size_t in_len, out_len, summary_len;
+/* The buffers of one call: `in` is read, `out`, `summary` and receiving's `counters` are lent, and all end at a protected page. */
+static uint8_t *in, *out, *summary, *counters;
+static size_t in_len, out_len, summary_len, counters_len;
+static uint8_t old_counters[64]; /* as they were before the call */
+
+/* Lends counters, every byte the same. */
+static void lend_counters(size_t bytes, uint8_t byte)
+{
+    counters = guarded(counters_len = bytes);
+    memset(counters, byte, counters_len);
+}
 
 static void lend(size_t in_bytes, size_t out_bytes, size_t summary_bytes)
 {
@@ -58,6 +67,7 @@ static void lend(size_t in_bytes, size_t out_bytes, size_t summary_bytes)
     summary = guarded(summary_len = summary_bytes);
     memset(out, ROOM, out_len);
     memset(summary, SUMMARY, summary_len);
+    lend_counters(HOLZMOTTE_COUNTERS_BYTES, 0);
 }
 
 /* Eight idles, again and again; a length that is no multiple of ten ends inside one. */
@@ -74,7 +84,8 @@ static uint64_t sends(uint64_t start)
 
 static uint64_t receives(void)
 {
-    return holzmotte_receive(in, in_len, out, out_len, summary, summary_len);
+    memcpy(old_counters, counters, counters_len);
+    return holzmotte_receive(in, in_len, out, out_len, summary, summary_len, counters, counters_len);
 }
 
 /* The room as it was, and zeros in a summary that has room for `words` bytes of them, else a summary as it was. */
@@ -91,6 +102,32 @@ static int only_fault(int word)
         if (holzmotte_word(summary, i) != (i == word))
             return 0;
     return 1;
+}
+
+/* Are the counters from byte `from` on as they were? */
+static int kept(size_t from) { return memcmp(counters + from, old_counters + from, counters_len - from) == 0; }
+
+/* The word of receiving's summary that is added to each number of the counters. */
+static const int ADDED[] = {
+    [HOLZMOTTE_COUNT_TESTED] = HOLZMOTTE_RECEIVE_TESTED,
+    [HOLZMOTTE_COUNT_SLIPS] = HOLZMOTTE_RECEIVE_SLIPS,
+    [HOLZMOTTE_COUNT_HEADER_FAULTS] = HOLZMOTTE_RECEIVE_HEADER_FAULTS,
+    [HOLZMOTTE_COUNT_TYPE_FAULTS] = HOLZMOTTE_RECEIVE_TYPE_FAULTS,
+    [HOLZMOTTE_COUNT_CONTROL_CODE_FAULTS] = HOLZMOTTE_RECEIVE_CONTROL_CODE_FAULTS,
+    [HOLZMOTTE_COUNT_SET_CODE_FAULTS] = HOLZMOTTE_RECEIVE_SET_CODE_FAULTS,
+    [HOLZMOTTE_COUNT_BEGUN] = HOLZMOTTE_RECEIVE_BEGUN,
+    [HOLZMOTTE_COUNT_REPLACED] = HOLZMOTTE_RECEIVE_REPLACED,
+};
+
+/* Is each number of the counters its old one plus its word, or full where that would pass it, and all behind them kept? */
+static int counted(void)
+{
+    for (int i = 0; i < 8; i++) {
+        uint64_t sum = holzmotte_counter(old_counters, i) + holzmotte_word(summary, ADDED[i]);
+        if (holzmotte_counter(counters, i) != (sum < HOLZMOTTE_COUNTER_FULL ? sum : HOLZMOTTE_COUNTER_FULL))
+            return 0;
+    }
+    return kept(HOLZMOTTE_COUNTERS_BYTES);
 }
 
 static void whole_calls(void)
@@ -114,7 +151,9 @@ static void whole_calls(void)
         CHECK(holzmotte_word(summary, HOLZMOTTE_RECEIVE_LOCKED) == (vectors >= 64));
         CHECK(holzmotte_word(summary, HOLZMOTTE_RECEIVE_HIGH) == 0);
         CHECK(holzmotte_word(summary, HOLZMOTTE_RECEIVE_ALONE) == 0);
+        CHECK(holzmotte_word(summary, HOLZMOTTE_RECEIVE_BEGUN) == 0 && holzmotte_word(summary, HOLZMOTTE_RECEIVE_REPLACED) == 0);
         CHECK(only_fault(0));
+        CHECK(counted());
         CHECK(out[out_len - 1] == (vectors >= 64 ? 0x07 : 0x01));
     }
     group("lists of 4 to 400 vectors sent and received, every buffer exact");
@@ -129,6 +168,7 @@ static void lines_of_every_length(void)
         CHECK(receives() == HOLZMOTTE_DONE);
         size_t written = HOLZMOTTE_VECTOR_BYTES * (size_t)holzmotte_word(summary, HOLZMOTTE_RECEIVE_VECTORS);
         CHECK(written <= out_len && all(out + written, out_len - written, ROOM));
+        CHECK(counted());
     }
     group("noise of 0 to 700 bytes received, every buffer exact");
 }
@@ -143,6 +183,7 @@ static void the_longest(void)
     memcpy(in, line, in_len);
     CHECK(receives() == HOLZMOTTE_DONE);
     CHECK(holzmotte_word(summary, HOLZMOTTE_RECEIVE_VECTORS) == 100000);
+    CHECK(holzmotte_counter(counters, HOLZMOTTE_COUNT_TESTED) == 100000 && counted());
     group("100,000 vectors and their line");
 }
 
@@ -155,9 +196,11 @@ static void empty_slices(void)
     CHECK(holzmotte_word(summary, HOLZMOTTE_SEND_REPLACED) == 0);
     lend(0, 0, HOLZMOTTE_RECEIVE_SUMMARY_BYTES);
     CHECK(receives() == HOLZMOTTE_DONE);
-    CHECK(all(summary, summary_len, 0));
+    CHECK(all(summary, summary_len, 0) && all(counters, counters_len, 0));
     lend(0, 0, 0);
     CHECK(sends(0) == HOLZMOTTE_NO_ROOM);
+    CHECK(receives() == HOLZMOTTE_NO_ROOM);
+    lend_counters(0, 0);
     CHECK(receives() == HOLZMOTTE_NO_ROOM);
     group("empty slices");
 }
@@ -170,13 +213,15 @@ static void longer_slices(void)
     CHECK(all(out + 33, 100, ROOM));
     CHECK(all(summary + 24, 9, SUMMARY) && !all(summary, 24, SUMMARY));
     lend(9, 10 + 100, HOLZMOTTE_RECEIVE_SUMMARY_BYTES + 9);
+    lend_counters(HOLZMOTTE_COUNTERS_BYTES + 9, COUNTERS);
     memset(in, 0, in_len);
     CHECK(receives() == HOLZMOTTE_DONE);
     CHECK(memcmp(out, "\x01\x9c\x00\x00\x01\x01\x9c\x00\x00\x01", 10) == 0);
     CHECK(all(out + 10, 100, ROOM));
     CHECK(holzmotte_word(summary, HOLZMOTTE_RECEIVE_TESTED) == 1 && holzmotte_word(summary, HOLZMOTTE_RECEIVE_SLIPS) == 1);
     CHECK(only_fault(HOLZMOTTE_RECEIVE_HEADER_FAULTS));
-    CHECK(all(summary + 80, 9, SUMMARY));
+    CHECK(all(summary + 96, 9, SUMMARY));
+    CHECK(counted() && all(counters + 32, 9, COUNTERS));
     group("longer slices keep their rest");
 }
 
@@ -231,6 +276,82 @@ static void last_frame(void)
     group("a line that stops at the end of a frame, and longer ones");
 }
 
+#define ERRORS "\x0f\xfe\xfe\xfe\xfe\x0f\xfe\xfe\xfe\xfe"
+
+/* Lends a line for calls that lend counters of their own: idles, three errors, three frames. Block 72 has an invalid header. So the
+ * second frame's Terminate is answered as an error too, and so is the third frame's Start. */
+static void lend_frames(void)
+{
+    lend(10 * 76, HOLZMOTTE_LINE_ROOM(10 * 76), HOLZMOTTE_SEND_SUMMARY_BYTES);
+    idles();
+    memcpy(in + 10 * 64, ERRORS ERRORS ERRORS, 30);
+    memcpy(in + 10 * 68, START TERMINATE START TERMINATE, 40);
+    memcpy(in + 10 * 73, START TERMINATE, 20);
+    CHECK(sends(0) == HOLZMOTTE_DONE);
+    const uint8_t *line = out;
+    lend(33 * 19, 10 * 76, HOLZMOTTE_RECEIVE_SUMMARY_BYTES);
+    memcpy(in, line, in_len);
+    in[33 * 18] ^= 1;
+}
+
+/* What it adds to the counters. */
+static const uint32_t FRAMES[] = {76, 0, 1, 0, 3, 0, 2, 6};
+
+static void receive_frames(void)
+{
+    CHECK(receives() == HOLZMOTTE_DONE);
+    for (int i = 0; i < 8; i++)
+        CHECK(holzmotte_word(summary, ADDED[i]) == FRAMES[i]);
+    CHECK(counted());
+}
+
+/* Puts a number into the counters. */
+static void put(int i, uint32_t number)
+{
+    for (int k = 0; k < 4; k++)
+        counters[4 * i + k] = (uint8_t)(number >> 8 * k);
+}
+
+static void running_total(void)
+{
+    lend_frames();
+    for (uint32_t calls = 1; calls <= 5; calls++) {
+        receive_frames();
+        for (int i = 0; i < 8; i++)
+            CHECK(holzmotte_counter(counters, i) == calls * FRAMES[i]);
+    }
+    /* each number at the top, one below, and so near that the call just reaches it or just does not; the others from 0 */
+    for (int i = 0; i < 8; i++)
+        for (uint32_t below = 0; below <= 77; below++) {
+            lend_counters(HOLZMOTTE_COUNTERS_BYTES, 0);
+            put(i, HOLZMOTTE_COUNTER_FULL - below);
+            receive_frames();
+        }
+    lend_counters(HOLZMOTTE_COUNTERS_BYTES, 0xff);
+    receive_frames();
+    CHECK(all(counters, counters_len, 0xff));
+    group("the counters over several calls, and numbers near and at the top");
+}
+
+static void unaligned_counters(void)
+{
+    lend_frames();
+    /* up to the protected page */
+    for (size_t more = 0; more <= 16; more++) {
+        lend_counters(HOLZMOTTE_COUNTERS_BYTES + more, COUNTERS);
+        receive_frames();
+    }
+    /* exact, the bytes on both sides not lent */
+    for (size_t at = 0; at <= 8; at++) {
+        lend_counters(HOLZMOTTE_COUNTERS_BYTES + 8, COUNTERS);
+        uint8_t *around = counters;
+        counters += at, counters_len = HOLZMOTTE_COUNTERS_BYTES;
+        receive_frames();
+        CHECK(all(around, at, COUNTERS) && all(counters + counters_len, 8 - at, COUNTERS));
+    }
+    group("counters at every alignment, exact and longer");
+}
+
 /* Sends idles, with one control byte spoilt where `spoilt` is an offset in them, and looks for a refusal. */
 static void send_refused(size_t bytes, size_t spoilt, uint64_t start, size_t room, size_t words, int number, uint64_t place)
 {
@@ -269,27 +390,30 @@ static void sending_refusals(void)
     group("sending's refusals, in their order, with short summaries");
 }
 
-static void receive_refused(size_t bytes, size_t room, size_t words, int number)
+static void receive_refused(size_t bytes, size_t room, size_t words, size_t counts, int number)
 {
     lend(bytes, room, words);
+    lend_counters(counts, COUNTERS);
     uint64_t result = receives();
     CHECK(HOLZMOTTE_NUMBER(result) == number && HOLZMOTTE_PLACE(result) == 0);
-    CHECK(refused(HOLZMOTTE_RECEIVE_SUMMARY_BYTES));
+    CHECK(refused(HOLZMOTTE_RECEIVE_SUMMARY_BYTES) && kept(0));
 }
 
 static void receiving_refusals(void)
 {
-    for (int i = 0; i < 4; i++) {
-        size_t words = (const size_t[]){80, 88, 79, 0}[i];
-        receive_refused(HOLZMOTTE_MAX_LINE_BYTES + 1, 0, words, HOLZMOTTE_TOO_LONG);
-        receive_refused(HOLZMOTTE_MAX_LINE_BYTES + 1, 1000010, words, HOLZMOTTE_TOO_LONG);
-        receive_refused(9, 9, words, HOLZMOTTE_NO_ROOM);
-        receive_refused(33, 39, words, HOLZMOTTE_NO_ROOM);
-        receive_refused(HOLZMOTTE_MAX_LINE_BYTES, 999999, words, HOLZMOTTE_NO_ROOM);
+    for (int i = 0; i < 16; i++) {
+        size_t words = (const size_t[]){96, 104, 95, 0}[i % 4], counts = (const size_t[]){32, 40, 31, 0}[i / 4];
+        receive_refused(HOLZMOTTE_MAX_LINE_BYTES + 1, 0, words, counts, HOLZMOTTE_TOO_LONG);
+        receive_refused(HOLZMOTTE_MAX_LINE_BYTES + 1, 1000010, words, counts, HOLZMOTTE_TOO_LONG);
+        receive_refused(9, 9, words, counts, HOLZMOTTE_NO_ROOM);
+        receive_refused(33, 39, words, counts, HOLZMOTTE_NO_ROOM);
+        receive_refused(HOLZMOTTE_MAX_LINE_BYTES, 999999, words, counts, HOLZMOTTE_NO_ROOM);
     }
-    for (size_t words = 0; words < 80; words++)
-        receive_refused(33, 40, words, HOLZMOTTE_NO_ROOM);
-    group("receiving's refusals, in their order, with short summaries");
+    for (size_t words = 0; words < 96; words++)
+        receive_refused(33, 40, words, 32, HOLZMOTTE_NO_ROOM);
+    for (size_t counts = 0; counts < 32; counts++)
+        receive_refused(33, 40, 96, counts, HOLZMOTTE_NO_ROOM);
+    group("receiving's refusals, in their order, with short summaries and counters");
 }
 
 int main(void)
@@ -301,6 +425,8 @@ int main(void)
     longer_slices();
     bad_blocks();
     last_frame();
+    running_total();
+    unaligned_counters();
     sending_refusals();
     receiving_refusals();
     printf("%d passed, %d failed\n", passed, failed);

@@ -6,7 +6,8 @@
 int main(void)
 {
     uint8_t line[9] = {0}, vectors[HOLZMOTTE_VECTOR_ROOM(sizeof line)], summary[HOLZMOTTE_RECEIVE_SUMMARY_BYTES];
-    uint64_t result = holzmotte_receive(line, sizeof line, vectors, sizeof vectors, summary, sizeof summary);
+    uint8_t counters[HOLZMOTTE_COUNTERS_BYTES] = {0}; /* a total over all calls that lend it */
+    uint64_t result = holzmotte_receive(line, sizeof line, vectors, sizeof vectors, summary, sizeof summary, counters, sizeof counters);
     if (result != HOLZMOTTE_DONE) {
         printf("refused %d at %llu\n", HOLZMOTTE_NUMBER(result), (unsigned long long)HOLZMOTTE_PLACE(result));
         return 1;

@@ -1,8 +1,11 @@
-/* linkwatch CAPTURE: tells a person what a 10GBASE-R link was saying, from a capture file of line records.
+/* linkwatch CAPTURE ...: tells a person what a 10GBASE-R link was saying, from capture files of line records.
  *
- * It gathers the records' line bytes, has the library receive them, and prints how many blocks were bad and why, and one line for
- * each run of vectors that say the same. All that it tells stands in the vectors and summaries that the library answered. A block
- * takes 6.4 ns on the line. */
+ * It gathers a file's line bytes, has the library receive them, and prints how many blocks were bad and why, how many frames began, and
+ * one line for each run of vectors that say the same. After several files it prints the total. All that it tells stands in the vectors,
+ * summaries and counters that the library answered. A block takes 6.4 ns on the line.
+ *
+ * A file that is refused or cannot be read adds nothing to the total, and the next one is told. The exit status is 0, 1 where a file was
+ * refused, 2 where one could not be read. */
 #include "holzmotte.h"
 
 #include <stdio.h>
@@ -12,6 +15,7 @@
 
 static uint8_t line[HOLZMOTTE_MAX_LINE_BYTES + MOST_BODY], vectors[HOLZMOTTE_MAX_VECTOR_BYTES];
 static uint8_t summary[HOLZMOTTE_RECEIVE_SUMMARY_BYTES], summary_at_lock[HOLZMOTTE_RECEIVE_SUMMARY_BYTES];
+static uint8_t total[HOLZMOTTE_COUNTERS_BYTES], not_told[HOLZMOTTE_COUNTERS_BYTES]; /* not_told: of calls that look for lock */
 static size_t line_len, place; /* place: of the record that is read */
 
 /* Gathers the line bytes of a capture file: 0, or the number of the first refusal. A record is body length (2 bytes), kind (2 bytes;
@@ -20,6 +24,7 @@ static int gather(FILE *file)
 {
     uint8_t head[4];
     size_t got;
+    line_len = 0;
     for (place = 0; (got = fread(head, 1, 4, file)) > 0; place += 4 + (head[0] + 256u * head[1])) {
         size_t body = head[0] + 256u * head[1], kind = head[2] + 256u * head[3];
         if (got < 4)
@@ -50,17 +55,18 @@ static const char *reason(int number)
     }
 }
 
-/* Has the library receive the first n bytes of the line: 0, or the number of its refusal. */
-static int receive(size_t n)
+/* Has the library receive the first n bytes of the line, and add to these counters: 0, or the number of its refusal. */
+static int receive(size_t n, uint8_t *counters)
 {
-    return HOLZMOTTE_NUMBER(holzmotte_receive(line, n, vectors, sizeof vectors, summary, sizeof summary));
+    return HOLZMOTTE_NUMBER(
+        holzmotte_receive(line, n, vectors, sizeof vectors, summary, sizeof summary, counters, HOLZMOTTE_COUNTERS_BYTES));
 }
 
 static unsigned long word(enum holzmotte_receive_word i) { return (unsigned long)holzmotte_word(summary, i); }
 
 static int locked_after(size_t n)
 {
-    return receive(n) == HOLZMOTTE_DONE && word(HOLZMOTTE_RECEIVE_LOCKED) == 1;
+    return receive(n, not_told) == HOLZMOTTE_DONE && word(HOLZMOTTE_RECEIVE_LOCKED) == 1;
 }
 
 /* The number of blocks tested when lock first came, or 0. The library is asked about longer and longer beginnings of the line: lock
@@ -68,13 +74,14 @@ static int locked_after(size_t n)
 static unsigned long first_lock(void)
 {
     size_t n = 0;
+    memset(summary_at_lock, 0, sizeof summary_at_lock);
     while (n < line_len && !locked_after(n))
         n = n + 128 < line_len ? n + 128 : line_len;
     if (!locked_after(n))
         return 0;
     while (locked_after(n - 1))
         n--;
-    receive(n);
+    receive(n, not_told);
     memcpy(summary_at_lock, summary, sizeof summary);
     return word(HOLZMOTTE_RECEIVE_TESTED);
 }
@@ -141,6 +148,18 @@ static void print_run(unsigned long from, unsigned long to, unsigned long lock)
     puts("");
 }
 
+static void print_tested(unsigned long tested, unsigned long slips) { printf("%lu blocks tested, %lu slips; ", tested, slips); }
+
+static void print_faults(unsigned long header, unsigned long type, unsigned long code, unsigned long set)
+{
+    printf("%lu header, %lu type, %lu control code, %lu ordered set code", header, type, code, set);
+}
+
+static void print_answers(unsigned long begun, unsigned long replaced)
+{
+    printf("%lu frames begun, %lu vectors replaced by errors\n", begun, replaced);
+}
+
 /* A payload bit that is damaged on the way shows at three places of the descrambled line: a little damage may hit codes alone, much of
  * it hits headers and types too. A far sender that sends wrong codes, or error blocks, leaves headers and types good. The totals
  * show no more than this, and without lock not even this. */
@@ -156,7 +175,8 @@ static void print_bad_blocks(unsigned long lock)
         puts("none");
         return;
     }
-    printf("%lu header, %lu type, %lu control code, %lu ordered set code\n", header, type, code, set);
+    print_faults(header, type, code, set);
+    puts("");
     if (lock == 0)
         puts("  without lock these numbers say nothing about the link");
     else if (since_lock(HOLZMOTTE_RECEIVE_SLIPS) > 0)
@@ -170,7 +190,7 @@ static void print_bad_blocks(unsigned long lock)
 static void print_link(unsigned long lock)
 {
     unsigned long count = word(HOLZMOTTE_RECEIVE_VECTORS), from = 0;
-    printf("%lu blocks tested, %lu slips; ", word(HOLZMOTTE_RECEIVE_TESTED), word(HOLZMOTTE_RECEIVE_SLIPS));
+    print_tested(word(HOLZMOTTE_RECEIVE_TESTED), word(HOLZMOTTE_RECEIVE_SLIPS));
     if (lock == 0)
         printf("never locked");
     else
@@ -178,6 +198,8 @@ static void print_link(unsigned long lock)
     printf("; at the end %slocked%s\n", word(HOLZMOTTE_RECEIVE_LOCKED) ? "" : "not ",
            word(HOLZMOTTE_RECEIVE_HIGH) ? ", with a high error rate" : "");
     print_bad_blocks(lock);
+    printf("in the whole capture: ");
+    print_answers(word(HOLZMOTTE_RECEIVE_BEGUN), word(HOLZMOTTE_RECEIVE_REPLACED));
     puts("   block   blocks      duration  what the link says");
     for (unsigned long n = 0; n < count; n++)
         if (n + 1 == count || n + 2 == lock || !goes_on(n)) {
@@ -186,21 +208,56 @@ static void print_link(unsigned long lock)
         }
 }
 
-int main(int argc, char **argv)
+static unsigned long count(enum holzmotte_counter_number i) { return holzmotte_counter(total, i); }
+
+static void print_total(int captures)
 {
-    FILE *file = argc == 2 ? fopen(argv[1], "rb") : NULL;
-    int number = file ? gather(file) : 0;
-    if (!file || ferror(file)) {
-        fputs("linkwatch CAPTURE: no such file, or it cannot be read\n", stderr);
+    printf("\ntotal of %d captures: ", captures);
+    print_tested(count(HOLZMOTTE_COUNT_TESTED), count(HOLZMOTTE_COUNT_SLIPS));
+    printf("bad blocks, before lock too: ");
+    print_faults(count(HOLZMOTTE_COUNT_HEADER_FAULTS), count(HOLZMOTTE_COUNT_TYPE_FAULTS),
+                 count(HOLZMOTTE_COUNT_CONTROL_CODE_FAULTS), count(HOLZMOTTE_COUNT_SET_CODE_FAULTS));
+    printf("; ");
+    print_answers(count(HOLZMOTTE_COUNT_BEGUN), count(HOLZMOTTE_COUNT_REPLACED));
+}
+
+/* Tells one capture: an exit status. */
+static int watch(const char *name)
+{
+    FILE *file = fopen(name, "rb");
+    int number = file ? gather(file) : 0, unread = !file || ferror(file);
+    if (file)
+        fclose(file);
+    if (unread) {
+        fprintf(stderr, "linkwatch: %s: no such file, or it cannot be read\n", name);
         return 2;
     }
     unsigned long lock = number == 0 ? first_lock() : 0;
     if (number == 0)
-        number = receive(line_len);
+        number = receive(line_len, total);
     if (number != 0) {
         printf("refused, number %d, the record at byte %zu: %s\n", number, place, reason(number));
         return 1;
     }
     print_link(lock);
     return 0;
+}
+
+int main(int argc, char **argv)
+{
+    int worst = 0, told = 0;
+    if (argc < 2) {
+        fputs("linkwatch CAPTURE ...\n", stderr);
+        return 2;
+    }
+    for (int i = 1; i < argc; i++) {
+        if (argc > 2)
+            printf("%s%s:\n", i == 1 ? "" : "\n", argv[i]);
+        int status = watch(argv[i]);
+        told += status == 0;
+        worst = status > worst ? status : worst;
+    }
+    if (argc > 2)
+        print_total(told);
+    return worst;
 }

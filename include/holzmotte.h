@@ -7,7 +7,8 @@
  *   - The caller owns it, before, during and after the call; the library keeps no pointer.
  *   - The pointer is not NULL, even where the length is 0: pass the address of anything then.
  *   - All of it is readable memory, and writable where the pointer is not to const; the length is at most PTRDIFF_MAX.
- *   - A slice that is written (line and summary in sending, vectors and summary in receiving) overlaps no other slice of the call.
+ *   - A slice that is written (line and summary in sending; vectors, summary and counters in receiving) overlaps no other slice of
+ *     the call, nor of a call that runs at the same time.
  * Nothing checks these four, and nothing else is asked: no pointer has to be aligned, and every other fault is refused by a number.
  *
  * Bytes. A word is five bytes: a control byte (bit i set when lane i carries a control character; bits 4 to 7 zero), then lanes 0
@@ -19,10 +20,10 @@
  * offset in `vectors` of the first control byte above 15.
  *
  * What is written. A success writes exactly the bytes that stand at each function, from the start of the lent slice, and leaves the
- * rest of the slice as it was. A refusal leaves `line` or `vectors` as it was and writes the summary's bytes as zeros; where the
- * summary slice is too short for them it stays as it was, whatever the refusal. Later versions may append words to a summary
- * and never move one: a program that was compiled for a shorter summary is refused with 4 by a later library, and has to be compiled
- * anew with its header.
+ * rest of the slice as it was. A refusal leaves `line`, or `vectors` and `counters`, as they were and writes the summary's bytes as
+ * zeros; where the summary slice is too short for them it stays as it was, whatever the refusal. Later versions may append words to
+ * a summary and never move one, and may add parameters: a program is compiled with the header of its library. A summary that has
+ * only an earlier version's bytes is refused with 4.
  */
 #ifndef HOLZMOTTE_H
 #define HOLZMOTTE_H
@@ -41,7 +42,8 @@ extern "C" {
 #define HOLZMOTTE_MAX_VECTOR_BYTES 1000000
 #define HOLZMOTTE_MAX_LINE_BYTES 825000
 #define HOLZMOTTE_SEND_SUMMARY_BYTES 24
-#define HOLZMOTTE_RECEIVE_SUMMARY_BYTES 80
+#define HOLZMOTTE_RECEIVE_SUMMARY_BYTES 96
+#define HOLZMOTTE_COUNTERS_BYTES 32
 
 /* The room that sending wants for its line, and receiving for its vectors (also where slips leave fewer vectors than fit). */
 #define HOLZMOTTE_LINE_ROOM(vector_bytes) ((size_t)(vector_bytes) / 40 * 33)
@@ -60,7 +62,7 @@ enum holzmotte_refusal {
     HOLZMOTTE_TOO_LONG = 1,    /* more than 1,000,000 vector bytes, or 825,000 line bytes */
     HOLZMOTTE_RAGGED = 2,      /* vector bytes not a multiple of 40 */
     HOLZMOTTE_START_STATE = 3, /* start state at or above 2^58 */
-    HOLZMOTTE_NO_ROOM = 4,     /* a lent slice, or the summary's, is too short */
+    HOLZMOTTE_NO_ROOM = 4,     /* a slice that is written is too short */
     HOLZMOTTE_CONTROL_BYTE = 5 /* a control byte above 15; its place is the byte offset of the first */
 };
 
@@ -81,7 +83,12 @@ enum holzmotte_send_word {
  * Word 9 speaks of the last vector. While the receiver is locked and the error rate not high, a Terminate that may end a frame is
  * accepted where the next block begins a frame or stands between frames (idles, ordered sets), and answered as the error vector where
  * it does not. Where the line stops, in the middle of the next block too, it is judged as if idles followed, and accepted. Then word 9
- * is 1: the same line, longer, may show this vector as an error. For any other last vector, a Terminate out of turn too, it is 0. */
+ * is 1: the same line, longer, may show this vector as an error. For any other last vector, a Terminate out of turn too, it is 0.
+ *
+ * Words 10 and 11 count vectors among those written, the last one too. Word 10 counts those of kind S: they have the Start (fb) of a
+ * frame, in lane 0 of their first or second word, and blocks of type 33, 66 and 78 carry them. A Start block that is answered as the
+ * error vector, or as Local Fault (not locked, or the error rate high), is not counted. Word 11 counts the error vectors,
+ * 0f fe fe fe fe 0f fe fe fe fe, for bad blocks and for good ones out of turn. */
 enum holzmotte_receive_word {
     HOLZMOTTE_RECEIVE_TESTED = 0,              /* blocks whose header was tested */
     HOLZMOTTE_RECEIVE_SLIPS = 1,               /* slips: one line bit skipped for each, in search of lock */
@@ -92,18 +99,45 @@ enum holzmotte_receive_word {
     HOLZMOTTE_RECEIVE_TYPE_FAULTS = 6,         /* a control block whose type is none of the fifteen */
     HOLZMOTTE_RECEIVE_CONTROL_CODE_FAULTS = 7, /* a 7-bit code of no control character; in type 1e also the error character's, 1e */
     HOLZMOTTE_RECEIVE_SET_CODE_FAULTS = 8,     /* an ordered set code other than 0 and f */
-    HOLZMOTTE_RECEIVE_ALONE = 9                /* 1 where the last vector ends a frame, judged without what follows it, else 0 */
+    HOLZMOTTE_RECEIVE_ALONE = 9,               /* 1 where the last vector ends a frame, judged without what follows it, else 0 */
+    HOLZMOTTE_RECEIVE_BEGUN = 10,              /* frames begun: blocks of kind S that were answered as decoded */
+    HOLZMOTTE_RECEIVE_REPLACED = 11            /* blocks that were answered as the error vector */
 };
+
+/* The counters: a running total that the caller keeps, eight 32-bit numbers, least significant byte first, number i at byte 4 * i. It
+ * begins as 32 zero bytes. Each receiving call adds to each number what the call itself counted, which is the word of the same name in
+ * its summary; a number that would pass HOLZMOTTE_COUNTER_FULL stays there. A refused call changes none. A caller who wants no total
+ * lends 32 bytes and ignores them. */
+enum holzmotte_counter_number {
+    HOLZMOTTE_COUNT_TESTED = 0,
+    HOLZMOTTE_COUNT_SLIPS = 1,
+    HOLZMOTTE_COUNT_HEADER_FAULTS = 2,
+    HOLZMOTTE_COUNT_TYPE_FAULTS = 3,
+    HOLZMOTTE_COUNT_CONTROL_CODE_FAULTS = 4,
+    HOLZMOTTE_COUNT_SET_CODE_FAULTS = 5,
+    HOLZMOTTE_COUNT_BEGUN = 6,
+    HOLZMOTTE_COUNT_REPLACED = 7
+};
+#define HOLZMOTTE_COUNTER_FULL UINT32_MAX /* 4,294,967,295 */
 
 enum holzmotte_diagram { HOLZMOTTE_INIT = 0, HOLZMOTTE_C = 1, HOLZMOTTE_D = 2, HOLZMOTTE_T = 3, HOLZMOTTE_E = 4 };
 
-/* Word i of a summary. */
-static inline uint64_t holzmotte_word(const uint8_t *summary, int i)
+/* The number in so many bytes, least significant first. */
+static inline uint64_t holzmotte_number_in(const uint8_t *bytes, int count)
 {
-    uint64_t word = 0;
-    for (int k = 7; k >= 0; k--)
-        word = word * 256 + summary[8 * i + k];
-    return word;
+    uint64_t number = 0;
+    while (count > 0)
+        number = number * 256 + bytes[--count];
+    return number;
+}
+
+/* Word i of a summary. */
+static inline uint64_t holzmotte_word(const uint8_t *summary, int i) { return holzmotte_number_in(summary + 8 * i, 8); }
+
+/* Number i of the counters. */
+static inline uint32_t holzmotte_counter(const uint8_t *counters, int i)
+{
+    return (uint32_t)holzmotte_number_in(counters + 4 * i, 4);
 }
 
 /* Encodes and scrambles a list of vectors, from the transmit diagram's INIT.
@@ -119,13 +153,14 @@ uint64_t holzmotte_send(const uint8_t *vectors, size_t vectors_len, uint64_t sta
 
 /* Finds block lock in a line, from a fresh receiver, and gives a vector for each tested block.
  *
- *   line     read: at most HOLZMOTTE_MAX_LINE_BYTES; bits at its end that fill no block are not tested
- *   vectors  at least HOLZMOTTE_VECTOR_ROOM(line_len) bytes; written: ten for each tested block
- *   summary  written: HOLZMOTTE_RECEIVE_SUMMARY_BYTES bytes
+ *   line      read: at most HOLZMOTTE_MAX_LINE_BYTES; bits at its end that fill no block are not tested
+ *   vectors   at least HOLZMOTTE_VECTOR_ROOM(line_len) bytes; written: ten for each tested block
+ *   summary   written: HOLZMOTTE_RECEIVE_SUMMARY_BYTES bytes
+ *   counters  read and written: HOLZMOTTE_COUNTERS_BYTES bytes; the total before the call, and after it
  *
- * Refusals, in this order: 1, 4 (vectors or summary too short). */
-uint64_t holzmotte_receive(const uint8_t *line, size_t line_len,
-                           uint8_t *vectors, size_t vectors_len, uint8_t *summary, size_t summary_len);
+ * Refusals, in this order: 1, 4 (vectors, summary or counters too short). */
+uint64_t holzmotte_receive(const uint8_t *line, size_t line_len, uint8_t *vectors, size_t vectors_len,
+                           uint8_t *summary, size_t summary_len, uint8_t *counters, size_t counters_len);
 
 #ifdef __cplusplus
 }

@@ -6,12 +6,25 @@ use compare::lists;
 use compare::random::Random;
 use compare::reference::block::{put, Kind, FORMATS};
 
-/// Calls both with lent slices of these lengths.
-fn same(room: usize, summary_room: usize, call: impl Fn(&mut [u8], &mut [u8], bool) -> u64) {
-    let mut outs = [vec![0xa5; room], vec![0xa5; room]];
-    let mut summaries = [vec![0x5a; summary_room], vec![0x5a; summary_room]];
-    let results = [0, 1].map(|i| call(&mut outs[i], &mut summaries[i], i == 0));
-    assert!(results[0] == results[1] && outs[0] == outs[1] && summaries[0] == summaries[1], "the fast version differs");
+/// Calls both with lent slices of this content.
+fn same<const N: usize>(lent: [Vec<u8>; N], call: impl Fn(&mut [Vec<u8>; N], bool) -> u64) {
+    let mut lents = [lent.clone(), lent];
+    let results = [0, 1].map(|i| call(&mut lents[i], i == 0));
+    assert!(results[0] == results[1] && lents[0] == lents[1], "the fast version differs");
+}
+
+fn same_sent(vectors: &[u8], start: u64, room: usize, summary_room: usize) {
+    same([vec![0xa5; room], vec![0x5a; summary_room]], |[line, summary], by_library| {
+        let send = if by_library { library::send } else { fast::send };
+        send(vectors, start, line, summary)
+    });
+}
+
+fn same_received(line: &[u8], room: usize, summary_room: usize, counters: Vec<u8>) {
+    same([vec![0xa5; room], vec![0x5a; summary_room], counters], |[vectors, summary, counters], by_library| {
+        let receive = if by_library { library::receive } else { fast::receive };
+        receive(line, vectors, summary, counters)
+    });
 }
 
 fn sending(random: &mut Random) {
@@ -25,10 +38,7 @@ fn sending(random: &mut Random) {
     }
     let start = random.start_state() + if random.once_in(8) { 1 << 58 } else { 0 };
     let room = (vectors.len() / 40 * 33 + 3).saturating_sub(random.below(5));
-    same(room, 27 - random.below(5), |line, summary, by_library| {
-        let send = if by_library { library::send } else { fast::send };
-        send(&vectors, start, line, summary)
-    });
+    same_sent(&vectors, start, room, 27 - random.below(5));
 }
 
 fn receiving(random: &mut Random) {
@@ -70,10 +80,9 @@ fn receiving_last_frame(random: &mut Random) {
 fn receiving_line(line: &Line, random: &mut Random) {
     let line = line.bytes();
     let room = (8 * line.len() / 66 * 10 + 3).saturating_sub(random.below(5));
-    same(room, library::RECEIVE_SUMMARY_BYTES + 3 - random.below(5), |vectors, summary, by_library| {
-        let receive = if by_library { library::receive } else { fast::receive };
-        receive(&line, vectors, summary)
-    });
+    let [summary, counters] =
+        [library::RECEIVE_SUMMARY_BYTES, library::COUNTERS_BYTES].map(|n| n + 3 - random.below(5));
+    same_received(&line, room, summary, random.counters(counters));
 }
 
 pub fn check() {
@@ -85,12 +94,6 @@ pub fn check() {
         receiving_last_frame(&mut random);
     }
     let too_long = vec![0; 1_000_040];
-    same(825_033, 24, |line, summary, by_library| {
-        let send = if by_library { library::send } else { fast::send };
-        send(&too_long, 0, line, summary)
-    });
-    same(1_000_010, library::RECEIVE_SUMMARY_BYTES, |vectors, summary, by_library| {
-        let receive = if by_library { library::receive } else { fast::receive };
-        receive(&too_long[..825_001], vectors, summary)
-    });
+    same_sent(&too_long, 0, 825_033, 24);
+    same_received(&too_long[..825_001], 1_000_010, library::RECEIVE_SUMMARY_BYTES, vec![0; library::COUNTERS_BYTES]);
 }

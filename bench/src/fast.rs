@@ -465,25 +465,45 @@ fn put_vector(out: &mut [u8], n: usize, flags: u8, octets: u64) {
     out[6..10].copy_from_slice(&((octets >> 32) as u32).to_le_bytes());
 }
 
-/// Only Terminate waits for the next block: it is answered at once, and taken back where one comes that is neither S nor C.
-#[inline(always)]
-fn judge_terminate(state: &mut State, next: Kind, out: &mut [u8], tested: usize) {
-    if *state == State::T && !matches!(next, Kind::S | Kind::C) {
-        *state = State::E;
-        put_vector(out, tested - 1, 0xff, ERRORS);
+/// What answering carries from block to block: the diagram and the counts.
+struct Answers {
+    state: State,
+    begun: u64,
+    replaced: u64,
+}
+
+impl Answers {
+    /// Only Terminate waits for the next block: it is answered at once, and taken back where one comes that is neither S nor C.
+    #[inline(always)]
+    fn judge_terminate(&mut self, next: Kind, out: &mut [u8], tested: usize) {
+        if self.state == State::T && !matches!(next, Kind::S | Kind::C) {
+            self.state = State::E;
+            self.replaced += 1;
+            put_vector(out, tested - 1, 0xff, ERRORS);
+        }
+    }
+
+    #[inline(always)]
+    fn answer(&mut self, now: &Tested, out: &mut [u8], tested: usize) {
+        self.judge_terminate(now.kind, out, tested);
+        self.state = NEXT[self.state as usize][now.kind as usize];
+        let (flags, octets) = match self.state {
+            State::Init => (0x11, LOCAL_FAULT),
+            State::E => (0xff, ERRORS),
+            _ => (now.flags, now.octets),
+        };
+        put_vector(out, tested, flags, octets);
+        self.begun += (now.kind == Kind::S && self.state == State::D) as u64;
+        self.replaced += (self.state == State::E) as u64;
     }
 }
 
-#[inline(always)]
-fn answer(state: &mut State, now: &Tested, out: &mut [u8], tested: usize) {
-    judge_terminate(state, now.kind, out, tested);
-    *state = NEXT[*state as usize][now.kind as usize];
-    let (flags, octets) = match state {
-        State::Init => (0x11, LOCAL_FAULT),
-        State::E => (0xff, ERRORS),
-        _ => (now.flags, now.octets),
-    };
-    put_vector(out, tested, flags, octets);
+/// Adds what a call counted, at most 100,000 each.
+fn add_counts(counters: &mut [u8; 32], added: [u64; 8]) {
+    for (place, added) in counters.chunks_exact_mut(4).zip(added) {
+        let old = load32(place, 0) as u32;
+        place.copy_from_slice(&old.saturating_add(added as u32).to_le_bytes());
+    }
 }
 
 /// The header at line bit `at`.
@@ -505,28 +525,33 @@ fn payload_at(line: &[u8], at: usize) -> u64 {
 }
 
 #[inline(never)]
-pub fn receive(line: &[u8], vectors: &mut [u8], summary: &mut [u8]) -> u64 {
+pub fn receive(line: &[u8], vectors: &mut [u8], summary: &mut [u8], counters: &mut [u8]) -> u64 {
     if line.len() > 825_000 {
-        return refuse(summary, 10, 1, 0);
+        return refuse(summary, 12, 1, 0);
     }
     let bits = 8 * line.len();
     let wanted = bits / 66 * 10;
-    if vectors.len() < wanted || summary.len() < 80 {
-        return refuse(summary, 10, 4, 0);
-    }
+    let counters = match counters.first_chunk_mut() {
+        Some(counters) if vectors.len() >= wanted && summary.len() >= 96 => counters,
+        _ => return refuse(summary, 12, 4, 0),
+    };
     let mut receiver = Receiver::default();
-    let mut state = State::Init;
+    let mut answers = Answers { state: State::Init, begun: 0, replaced: 0 };
     let (mut tested, mut slips, mut at) = (0, 0, 0);
     while at + 66 <= bits {
         let (now, slipped) = receiver.test(header_at(line, at), payload_at(line, at + 2));
-        answer(&mut state, &now, vectors, tested);
+        answers.answer(&now, vectors, tested);
         tested += 1;
         slips += slipped as u64;
         at += 66 + slipped as usize;
     }
     let [header, type_byte, control_code, set_code, ..] = receiver.faults;
     let (locked, high) = (receiver.locked as u64, receiver.high as u64);
-    let (tested, alone) = (tested as u64, (state == State::T) as u64);
-    put_words(summary, &[tested, slips, locked, high, tested, header, type_byte, control_code, set_code, alone]);
+    let (tested, alone) = (tested as u64, (answers.state == State::T) as u64);
+    let Answers { begun, replaced, .. } = answers;
+    let words =
+        [tested, slips, locked, high, tested, header, type_byte, control_code, set_code, alone, begun, replaced];
+    put_words(summary, &words);
+    add_counts(counters, [tested, slips, header, type_byte, control_code, set_code, begun, replaced]);
     0
 }

@@ -24,6 +24,14 @@ fn best(mut one: impl FnMut(), mut other: impl FnMut()) -> [f64; 2] {
     best
 }
 
+/// What is lent to a call. Sending has no counters.
+#[derive(Clone, PartialEq)]
+struct Lent {
+    out: Vec<u8>,
+    summary: [u8; library::RECEIVE_SUMMARY_BYTES],
+    counters: [u8; library::COUNTERS_BYTES],
+}
+
 /// One row of the table: a direction and a line, and how many blocks that is.
 struct Row<'a> {
     direction: &'a str,
@@ -47,21 +55,18 @@ impl Row<'_> {
     }
 
     /// Times one call of the library and of the fast version, each on buffers of its own, after a look that they agree.
-    fn time(
-        &self,
-        room: usize,
-        library: impl Fn(&mut [u8], &mut [u8]) -> u64,
-        fast: impl Fn(&mut [u8], &mut [u8]) -> u64,
-    ) {
-        let [mut out, mut fast_out] = [vec![0; room], vec![0; room]];
-        let [mut summary, mut fast_summary] = [[0; library::RECEIVE_SUMMARY_BYTES]; 2];
-        let results = [library(&mut out, &mut summary), fast(&mut fast_out, &mut fast_summary)];
-        let same = results == [0, 0] && out == fast_out && summary == fast_summary;
+    fn time(&self, room: usize, library: impl Fn(&mut Lent) -> u64, fast: impl Fn(&mut Lent) -> u64) {
+        let mut lent = Lent {
+            out: vec![0; room],
+            summary: [0; library::RECEIVE_SUMMARY_BYTES],
+            counters: [0; library::COUNTERS_BYTES],
+        };
+        let mut fast_lent = lent.clone();
+        let results = [library(&mut lent), fast(&mut fast_lent)];
+        let same = results == [0, 0] && lent == fast_lent;
         assert!(same, "{} {}: they differ", self.direction, self.line);
-        let seconds = best(
-            || _ = black_box(library(black_box(&mut out), black_box(&mut summary))),
-            || _ = black_box(fast(black_box(&mut fast_out), black_box(&mut fast_summary))),
-        );
+        let seconds =
+            best(|| _ = black_box(library(black_box(&mut lent))), || _ = black_box(fast(black_box(&mut fast_lent))));
         self.print(seconds);
     }
 }
@@ -75,8 +80,8 @@ fn main() {
         let row = Row { direction: "send", line: t.name, blocks: t.vectors.len() as u64 / 10 };
         row.time(
             t.vectors.len() / 40 * 33,
-            |out, summary| library::send(&t.vectors, 0, out, summary),
-            |out, summary| fast::send(&t.vectors, 0, out, summary),
+            |lent| library::send(&t.vectors, 0, &mut lent.out, &mut lent.summary),
+            |lent| fast::send(&t.vectors, 0, &mut lent.out, &mut lent.summary),
         );
     }
     for t in &all {
@@ -85,8 +90,8 @@ fn main() {
         let row = Row { direction: "receive", line: t.name, blocks: library::word(&summary, 0) };
         row.time(
             8 * line.len() / 66 * 10,
-            |out, summary| library::receive(&line, out, summary),
-            |out, summary| fast::receive(&line, out, summary),
+            |lent| library::receive(&line, &mut lent.out, &mut lent.summary, &mut lent.counters),
+            |lent| fast::receive(&line, &mut lent.out, &mut lent.summary, &mut lent.counters),
         );
     }
 }

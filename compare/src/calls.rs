@@ -2,6 +2,7 @@
 //! before and behind each slice.
 use crate::library;
 use crate::random::Random;
+use crate::reference::counters::{COUNTERS_BYTES, FIELDS};
 use crate::reference::{receiving, sending, Refusal};
 
 /// Bytes before and behind a lent slice that nobody may touch. Odd, so that slices stand at odd addresses too.
@@ -46,6 +47,10 @@ pub struct Tally {
     pub faults: [u64; 4],
     /// Lines whose last vector was judged without its successor.
     pub alone: u64,
+    pub begun: u64,
+    pub replaced: u64,
+    /// Fields of the counters that a call left at the top.
+    pub full: u64,
     pub refusals: u64,
 }
 
@@ -57,6 +62,9 @@ impl Tally {
         self.received += other.received;
         self.add_faults(other.faults);
         self.alone += other.alone;
+        self.begun += other.begun;
+        self.replaced += other.replaced;
+        self.full += other.full;
         self.refusals += other.refusals;
     }
 
@@ -85,7 +93,8 @@ impl Calls {
 
     /// Receives with exactly the room that is asked for.
     pub fn receive(&mut self, line: &[u8]) -> Outcome {
-        self.receive_into(line, 8 * line.len() / 66 * 10, receiving::SUMMARY_BYTES)
+        let old = self.random.counters(COUNTERS_BYTES);
+        self.receive_into(line, 8 * line.len() / 66 * 10, receiving::SUMMARY_BYTES, &old)
     }
 
     /// Sends a list, and receives what the second program sends of it.
@@ -116,28 +125,35 @@ impl Calls {
         )
     }
 
-    pub fn receive_into(&mut self, line: &[u8], room: usize, summary_room: usize) -> Outcome {
+    /// `old` is the content of the lent counters.
+    pub fn receive_into(&mut self, line: &[u8], room: usize, summary_room: usize, old: &[u8]) -> Outcome {
         let mut input = Lent::new(line, &mut self.random);
         let mut vectors = Lent::new(&vec![0xa5; room], &mut self.random);
         let mut summary = Lent::new(&vec![0x5a; summary_room], &mut self.random);
-        let answer = receiving::receive(line, room, summary_room);
+        let mut counters = Lent::new(old, &mut self.random);
+        let mut total = old.to_vec();
+        let answer = receiving::receive(line, room, summary_room, &mut total);
         let (result, output, words) = match &answer {
             Ok(received) => (0, received.vectors.clone(), received.summary()),
             Err(refusal) => self.refusal(*refusal, receiving::SUMMARY_BYTES, summary_room),
         };
-        let expected = [input.bytes.clone(), vectors.with(&output), summary.with(&words)];
-        let got = library::receive(input.slice(), vectors.slice(), summary.slice());
+        let expected = [input.bytes.clone(), vectors.with(&output), summary.with(&words), counters.with(&total)];
+        let got = library::receive(input.slice(), vectors.slice(), summary.slice(), counters.slice());
         self.tally.receives += 1;
         self.tally.received += output.len() as u64 / 10;
         if let Ok(received) = answer {
             self.tally.add_faults(received.faults());
             self.tally.alone += received.alone() as u64;
+            self.tally.begun += received.begun();
+            self.tally.replaced += received.replaced();
+            self.tally.full += total.chunks(4).take(FIELDS).filter(|field| *field == [0xff; 4]).count() as u64;
         }
+        let counters_room = old.len();
         same(
-            &format!("receiving {} bytes, room {room}, summary {summary_room}", line.len()),
-            ["line", "vectors", "summary"],
+            &format!("receiving {} bytes, room {room}, summary {summary_room}, counters {counters_room}", line.len()),
+            ["line", "vectors", "summary", "counters"],
             (result, &expected),
-            (got, &[input, vectors, summary]),
+            (got, &[input, vectors, summary, counters]),
         )
     }
 
@@ -157,7 +173,12 @@ pub fn agreed(line: &[u8]) -> (Vec<u8>, [u64; library::RECEIVE_WORDS]) {
 }
 
 /// Compares result and slices, guards included.
-fn same(call: &str, names: [&str; 3], expected: (u64, &[Vec<u8>; 3]), got: (u64, &[Lent; 3])) -> Outcome {
+fn same<const N: usize>(
+    call: &str,
+    names: [&str; N],
+    expected: (u64, &[Vec<u8>; N]),
+    got: (u64, &[Lent; N]),
+) -> Outcome {
     if got.0 != expected.0 {
         return Err(format!("{call}: result {} and not {}", got.0, expected.0));
     }

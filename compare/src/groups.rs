@@ -26,5 +26,5 @@ pub const GROUPS: [Group; 13] = [
     Group { name: "lock", says: "invalid headers at rates that lose lock", run: damage::lock },
     Group { name: "rate", says: "invalid headers at rates that reach high, window ends", run: damage::rate },
     Group { name: "truncated", says: "lines cut at any byte", run: damage::truncated },
-    Group { name: "refusals", says: "every refusal, room one byte short and exact", run: refusals::refusals },
+    Group { name: "refusals", says: "every refusal, all slices short, exact and long", run: refusals::refusals },
 ];

@@ -17,6 +17,8 @@ extern "C" {
         vectors_len: usize,
         summary: *mut u8,
         summary_len: usize,
+        counters: *mut u8,
+        counters_len: usize,
     ) -> u64;
 }
 
@@ -37,7 +39,7 @@ pub fn send(vectors: &[u8], start_state: u64, line: &mut [u8], summary: &mut [u8
 }
 
 /// Receives a line: 0, or refusal number + 256 x place.
-pub fn receive(line: &[u8], vectors: &mut [u8], summary: &mut [u8]) -> u64 {
+pub fn receive(line: &[u8], vectors: &mut [u8], summary: &mut [u8], counters: &mut [u8]) -> u64 {
     // Safety: as above.
     unsafe {
         holzmotte_receive(
@@ -47,13 +49,16 @@ pub fn receive(line: &[u8], vectors: &mut [u8], summary: &mut [u8]) -> u64 {
             vectors.len(),
             summary.as_mut_ptr(),
             summary.len(),
+            counters.as_mut_ptr(),
+            counters.len(),
         )
     }
 }
 
 /// The words of receiving's summary, and its bytes.
-pub const RECEIVE_WORDS: usize = 10;
+pub const RECEIVE_WORDS: usize = 12;
 pub const RECEIVE_SUMMARY_BYTES: usize = 8 * RECEIVE_WORDS;
+pub const COUNTERS_BYTES: usize = 32;
 
 /// Word `i` of a summary.
 pub fn word(summary: &[u8], i: usize) -> u64 {
@@ -77,7 +82,7 @@ pub fn sent(vectors: &[u8], start_state: u64) -> (Vec<u8>, [u8; 24]) {
 pub fn received(line: &[u8]) -> (Vec<u8>, [u8; RECEIVE_SUMMARY_BYTES]) {
     let mut vectors = vec![0; 8 * line.len() / 66 * 10];
     let mut summary = [0; RECEIVE_SUMMARY_BYTES];
-    assert_eq!(receive(line, &mut vectors, &mut summary), 0);
+    assert_eq!(receive(line, &mut vectors, &mut summary, &mut [0; COUNTERS_BYTES]), 0);
     vectors.truncate(10 * word(&summary, 4) as usize);
     (vectors, summary)
 }

@@ -84,10 +84,24 @@ pub fn idle() -> Block {
     encode(&lists::idle()).unwrap()
 }
 
+/// A block of a Start and seven data octets.
+pub fn start() -> Block {
+    encode(&lists::start()).unwrap()
+}
+
+/// A block of a Terminate and seven idles.
+pub fn end() -> Block {
+    encode(&lists::end()).unwrap()
+}
+
+/// A block with an invalid header.
+pub fn invalid() -> Block {
+    block([true, true], 0x1e)
+}
+
 /// Blocks that give lock and set high: 15 invalid headers in 64 keep lock, and one more is the 16th of the window.
 pub fn until_high() -> Vec<Block> {
-    let invalid = block([true, true], 0x1e);
-    [vec![idle(); 64], vec![invalid; 15], vec![idle(); 49], vec![invalid]].concat()
+    [vec![idle(); 64], vec![invalid(); 15], vec![idle(); 49], vec![invalid()]].concat()
 }
 
 /// A block with a header and a payload, bit 0 lowest.
@@ -103,4 +117,22 @@ pub fn data(random: &mut Random) -> Block {
 /// A control block with any payload.
 pub fn control(random: &mut Random) -> Block {
     block(CONTROL, random.word())
+}
+
+/// A line that is damaged in many ways, cut at a wrong place, or nothing but noise.
+pub fn damaged(random: &mut Random) -> Vec<u8> {
+    if random.once_in(4) {
+        let bytes = random.below(1_000);
+        return random.bytes(bytes);
+    }
+    let vectors = lists::list_after_lock(64 + random.below(100), 50, random);
+    let mut line = Line::of_list(&vectors, random.start_state());
+    line.flip_some(random.below(20), 0, random);
+    let from = random.below(line.bits.len() - 200);
+    match random.below(3) {
+        0 => line.burst(from, 200, random),
+        1 => line.cut(from, random.below(66)),
+        _ => line.stretch(from, random.below(66), random),
+    }
+    line.bytes()
 }

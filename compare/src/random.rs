@@ -48,4 +48,18 @@ impl Random {
             _ => self.word() >> 6,
         }
     }
+
+    /// A field of counters: anything, or so near the top that a call may take it there.
+    fn counter(&mut self) -> u32 {
+        match self.below(4) {
+            0 => 0,
+            1 => self.word() as u32,
+            _ => u32::MAX - (self.word() as u32 >> (14 + self.below(18))),
+        }
+    }
+
+    /// The content of lent counters of any length.
+    pub fn counters(&mut self, bytes: usize) -> Vec<u8> {
+        (0..bytes.div_ceil(4)).flat_map(|_| self.counter().to_le_bytes()).take(bytes).collect()
+    }
 }

@@ -1,6 +1,7 @@
 //! The second program: document 01 and the requests of document 02, bit by bit. It was written from the documents alone, to be
 //! obvious and not to be fast, and shares nothing with the library. Comments in quotes are the documents' sentences.
 pub mod block;
+pub mod counters;
 pub mod diagrams;
 pub mod fault;
 pub mod receiving;

@@ -29,6 +29,9 @@ fn demand_2_legal_lists_come_back() {
         assert!(bad == 0 || (bad == 1 && start != 0), "list {n}: {bad} bad blocks");
         let ends = kind_of_vector(vectors.last_chunk().unwrap()) == Kind::T;
         assert_eq!(words[9], ends as u64, "list {n}");
+        let starts =
+            vectors.chunks(10).filter(|vector| kind_of_vector((*vector).try_into().unwrap()) == Kind::S).count();
+        assert_eq!(words[10..], [starts as u64, 0], "list {n}");
         ended += ends as u32;
     }
     // neither case is empty

@@ -1,7 +1,7 @@
 //! Request 1/13: which blocks are counted as bad, and under which reason, held to numbers that stand here.
 use compare::calls::agreed;
 use compare::library::{sent, word};
-use compare::lines::{block, data, idle, until_high, Line};
+use compare::lines::{block, damaged, data, idle, until_high, Line};
 use compare::lists;
 use compare::random::Random;
 use compare::reference::block::{encode, kind, Block, Kind, CONTROL, DATA};
@@ -173,31 +173,13 @@ fn the_bit_that_a_slip_skips_is_missed_in_the_block_after_it() {
     }
 }
 
-/// A line that is damaged in many ways, cut at a wrong place, or nothing but noise.
-fn damaged(random: &mut Random) -> Vec<u8> {
-    if random.once_in(4) {
-        let bytes = random.below(1_000);
-        return random.bytes(bytes);
-    }
-    let vectors = lists::list_after_lock(64 + random.below(100), 50, random);
-    let mut line = Line::of_list(&vectors, random.start_state());
-    line.flip_some(random.below(20), 0, random);
-    let from = random.below(line.bits.len() - 200);
-    match random.below(3) {
-        0 => line.burst(from, 200, random),
-        1 => line.cut(from, random.below(66)),
-        _ => line.stretch(from, random.below(66), random),
-    }
-    line.bytes()
-}
-
 #[test]
 fn the_four_together_are_the_tested_blocks_of_kind_e() {
     let mut random = Random::new(5);
     let mut all = NONE;
     for n in 0..2_000 {
         let line = damaged(&mut random);
-        let blocks = receive(&line, usize::MAX, usize::MAX).ok().unwrap().blocks;
+        let blocks = receive(&line, usize::MAX, usize::MAX, &mut [0; 32]).ok().unwrap().blocks;
         let bad = blocks.iter().filter(|block| kind(block) == Kind::E).count() as u64;
         let (_, _, faults) = seen(&line);
         assert_eq!(faults.iter().sum::<u64>(), bad, "line {n}");

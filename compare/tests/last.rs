@@ -1,10 +1,10 @@
 //! Request 6/13: the last frame of a capture. A missing next block counts as C, and a flag says that the last vector was judged
 //! without its successor.
 use compare::calls::agreed;
-use compare::lines::{block, idle, until_high, Line};
+use compare::lines::{block, end, idle, invalid, start, until_high, Line};
 use compare::lists;
 use compare::random::Random;
-use compare::reference::block::{encode, kind_of_vector, Block, Kind, CONTROL, DATA, TERMINATE};
+use compare::reference::block::{kind_of_vector, Block, Kind, CONTROL, DATA, TERMINATE};
 use compare::reference::vector::{vector, Character, Vector, ERROR, LOCAL_FAULT};
 use std::cmp::Ordering;
 use Character::{Control, Data};
@@ -21,21 +21,8 @@ fn end_after(octets: usize) -> Vector {
     }))
 }
 
-fn start() -> Block {
-    encode(&lists::start()).unwrap()
-}
-
-fn end() -> Block {
-    encode(&lists::end()).unwrap()
-}
-
 fn data() -> Block {
     block(DATA, 0)
-}
-
-/// A block with an invalid header.
-fn invalid() -> Block {
-    block([true, true], 0x1e)
 }
 
 /// The last vectors of a line, two of them, and its flag.
@@ -128,7 +115,7 @@ fn a_next_block_cut_in_the_middle_is_missing() {
 #[test]
 fn an_empty_capture_has_no_flag() {
     let (vectors, words) = agreed(&[]);
-    assert_eq!((vectors, words), (vec![], [0; 10]));
+    assert_eq!((vectors, words), (vec![], [0; 12]));
 }
 
 #[test]

@@ -117,7 +117,7 @@ fn high_is_cleared_at_the_end_of_a_window_with_fewer() {
 fn nine_zero_bytes_give_one_local_fault_vector_and_one_slip() {
     let (vectors, words) = agreed(&[0; 9]);
     assert_eq!(vectors, LOCAL_FAULT);
-    assert_eq!(words, [1, 1, 0, 0, 1, 1, 0, 0, 0, 0]);
+    assert_eq!(words, [1, 1, 0, 0, 1, 1, 0, 0, 0, 0, 0, 0]);
 }
 
 /// Why demand 3 stops at three: payload bits 6, 7, 10 and 11 of one block come back 58 bits later, in the type byte of the next, and

@@ -78,6 +78,10 @@ fn round(options: &Options, seed: u64) -> (usize, usize) {
     let [header, type_byte, control_code, set_code] = total.faults;
     println!("bad blocks received: {header} header, {type_byte} type, {control_code} control code, {set_code} ordered set code");
     println!("lines that end with an accepted Terminate: {}", total.alone);
+    println!(
+        "frames begun: {}, vectors replaced: {}; counters at the top: {}",
+        total.begun, total.replaced, total.full
+    );
     (passed, failed)
 }
 

@@ -1,8 +1,9 @@
 //! Every refusal, alone and with others, with the lent slices one byte short, exact and longer.
 use crate::calls::{Calls, Outcome};
-use crate::lists::list;
+use crate::lines::Line;
+use crate::lists::{list, list_after_lock};
 use crate::random::Random;
-use crate::reference::{receiving, sending};
+use crate::reference::sending;
 
 /// Lengths around one that is wanted: one short (where it can be), exact, one more, and more.
 fn around(wanted: usize) -> Vec<usize> {
@@ -71,14 +72,37 @@ fn first_control_byte(calls: &mut Calls) -> Outcome {
     Ok(())
 }
 
+/// Noise where the length is odd, else control vectors that give lock, then frames and errors.
+fn line(length: usize, random: &mut Random) -> Vec<u8> {
+    if length % 2 == 1 {
+        return random.bytes(length);
+    }
+    let vectors = list_after_lock(8 * length / 66 + 1, 100, random);
+    let mut line = Line::of_list(&vectors, random.start_state()).bytes();
+    line.truncate(length);
+    line
+}
+
 fn receiving(calls: &mut Calls) -> Outcome {
-    for length in [0, 1, 8, 9, 16, 17, 33, 66, 528, 824_999, 825_000, 825_001, 900_000] {
-        let line = calls.random.bytes(length);
+    for length in [0, 1, 8, 9, 16, 17, 33, 66, 528, 700, 824_999, 825_000, 825_001, 900_000] {
+        let line = line(length, &mut calls.random);
         for room in around(8 * length / 66 * 10) {
-            for summary in around(receiving::SUMMARY_BYTES) {
-                if length < 1_000 || calls.random.once_in(6) {
-                    calls.receive_into(&line, room, summary)?;
-                }
+            receive_around(calls, &line, room)?;
+        }
+    }
+    Ok(())
+}
+
+/// Lengths of a lent summary and of lent counters: none, around those that they want, around a summary's before request 3/13, long.
+const LENGTHS: [usize; 13] = [0, 1, 31, 32, 33, 64, 79, 80, 81, 95, 96, 97, 200];
+
+/// All summaries and counters of a short line, and some of a long one.
+fn receive_around(calls: &mut Calls, line: &[u8], room: usize) -> Outcome {
+    for summary in LENGTHS {
+        for counters in LENGTHS {
+            if line.len() < 1_000 || calls.random.once_in(25) {
+                let old = calls.random.counters(counters);
+                calls.receive_into(line, room, summary, &old)?;
             }
         }
     }

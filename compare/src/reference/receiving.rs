@@ -1,5 +1,6 @@
 //! Receiving a line.
 use super::block::{decode, kind, Block, Kind};
+use super::counters::{Counters, COUNTERS_BYTES};
 use super::diagrams::{receive as step, ErrorRate, Lock, State};
 use super::fault::{fault, Fault, FAULTS};
 use super::scrambler::Scrambler;
@@ -7,11 +8,13 @@ use super::vector::{Vector, ERROR, LOCAL_FAULT};
 use super::{refused, Refusal};
 
 pub const MOST_LINE_BYTES: usize = 825_000;
-pub const SUMMARY_BYTES: usize = 80;
+pub const SUMMARY_BYTES: usize = 96;
 
 pub struct Received {
     /// The tested blocks, descrambled.
     pub blocks: Vec<Block>,
+    /// The receive diagram's state at each of them.
+    pub states: Vec<State>,
     pub vectors: Vec<u8>,
     pub slips: u64,
     pub locked: bool,
@@ -31,23 +34,45 @@ impl Received {
         self.blocks.last().is_some_and(|last| kind(last) == Kind::T && self.vectors.ends_with(&decode(last)))
     }
 
+    /// "Begun means a block of kind S answered as decoded".
+    pub fn begun(&self) -> u64 {
+        let decoded = |state: &State| *state != State::Init && *state != State::E;
+        let begun = |(block, state): &(&Block, &State)| kind(block) == Kind::S && decoded(state);
+        self.blocks.iter().zip(&self.states).filter(begun).count() as u64
+    }
+
+    /// "Replaced means answered as the error vector."
+    pub fn replaced(&self) -> u64 {
+        self.states.iter().filter(|state| **state == State::E).count() as u64
+    }
+
     /// The summary as it crosses the C boundary; word 4 is the number of vectors.
     pub fn summary(&self) -> Vec<u8> {
         let (tested, vectors) = (self.blocks.len() as u64, self.vectors.len() as u64 / 10);
-        let words = [tested, self.slips, self.locked as u64, self.high as u64, vectors];
-        words.into_iter().chain(self.faults()).chain([self.alone() as u64]).flat_map(u64::to_le_bytes).collect()
+        let first = [tested, self.slips, self.locked as u64, self.high as u64, vectors];
+        let last = [self.alone() as u64, self.begun(), self.replaced()];
+        first.into_iter().chain(self.faults()).chain(last).flat_map(u64::to_le_bytes).collect()
     }
 }
 
-/// What receiving answers, given the lengths of the lent vectors and of the lent summary.
-pub fn receive(line: &[u8], room: usize, summary_room: usize) -> Result<Received, Refusal> {
+/// What receiving answers, given the lengths of the lent vectors and of the lent summary. "A counters record is lent to each call and
+/// updated in place".
+pub fn receive(line: &[u8], room: usize, summary_room: usize, counters: &mut [u8]) -> Result<Received, Refusal> {
     if line.len() > MOST_LINE_BYTES {
         return refused(1);
     }
     if room < 10 * (8 * line.len() / 66) || summary_room < SUMMARY_BYTES {
         return refused(4);
     }
-    Ok(receive_all(line))
+    // "A state or record that a later request passes through C is a lent slice too; one too short is refusal 4"
+    let Some(record) = counters.first_chunk_mut::<COUNTERS_BYTES>() else {
+        return refused(4);
+    };
+    let received = receive_all(line);
+    let mut total = Counters::of_bytes(record);
+    total.add(&received);
+    *record = total.bytes();
+    Ok(received)
 }
 
 /// A tested block, descrambled, and whether testing it left the receiver locked and not high.
@@ -87,9 +112,10 @@ fn receive_all(line: &[u8]) -> Received {
         block.payload = scrambler.descramble(&block.payload);
         tested.push(Tested { block, up: lock.locked && !rate.high });
     }
-    let vectors = answers(&tested);
-    let blocks = tested.into_iter().map(|tested| tested.block).collect();
-    Received { blocks, vectors, slips, locked: lock.locked, high: rate.high }
+    let states = states(&tested);
+    let blocks: Vec<Block> = tested.into_iter().map(|tested| tested.block).collect();
+    let vectors = states.iter().zip(&blocks).flat_map(|(state, block)| answer(*state, block)).collect();
+    Received { blocks, states, vectors, slips, locked: lock.locked, high: rate.high }
 }
 
 fn block_at(line: &[u8], at: usize) -> Block {
@@ -97,18 +123,18 @@ fn block_at(line: &[u8], at: usize) -> Block {
     Block { header: std::array::from_fn(|i| bit(at + i)), payload: std::array::from_fn(|i| bit(at + 2 + i)) }
 }
 
-/// One vector for each tested block.
-fn answers(tested: &[Tested]) -> Vec<u8> {
+/// One state for each tested block.
+fn states(tested: &[Tested]) -> Vec<State> {
     let mut state = State::Init;
-    let mut vectors = Vec::new();
+    let mut states = Vec::new();
     for (n, now) in tested.iter().enumerate() {
         // request 6/13: "A missing next block now counts as C"
         let next = tested.get(n + 1).map_or(Kind::C, Tested::counts_as);
         // "Not locked or high: state INIT"
         state = if now.up { step(state, kind(&now.block), next) } else { State::Init };
-        vectors.extend(answer(state, &now.block));
+        states.push(state);
     }
-    vectors
+    states
 }
 
 /// "State E answers the error vector, the others the decoded block", and INIT the Local Fault vector.

@@ -4,5 +4,6 @@ pub mod Reading
 pub mod Telling
 pub mod Classes
 pub mod Sending
+pub mod Carried
 pub mod Near
 pub mod High

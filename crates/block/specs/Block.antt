@@ -218,13 +218,37 @@ kindOf h x = kindBy (formatOf h x) x
 unfoldable pub decoded : ℕ → ℕ → List ℕ
 decoded h x = decodedBy (formatOf h x) x
 
--- kind E
+-- kinds E, S and T
 abbrev pub isError : Kind → Bool
 isError D = false
 isError C = false
 isError S = false
 isError T = false
 isError E = true
+
+abbrev pub isS : Kind → Bool
+isS D = false
+isS C = false
+isS S = true
+isS T = false
+isS E = false
+
+abbrev pub isT : Kind → Bool
+isT D = false
+isT C = false
+isT S = false
+isT T = true
+isT E = false
+
+-- two lists of bytes are the same; a vector is the error vector
+abbrev pub same : List ℕ → List ℕ → Bool
+same [] [] = true
+same [] (b ∷ m) = false
+same (a ∷ l) [] = false
+same (a ∷ l) (b ∷ m) = eqb a b && same l m
+
+abbrev pub isErrorVector : List ℕ → Bool
+isErrorVector v = same v errorVector
 
 -- ---- why a received block is bad: document 02, 1/13
 

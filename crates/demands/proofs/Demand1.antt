@@ -1,20 +1,23 @@
 -- Demand 1, proved over the definitions. Assumes nothing.
 use mathlib.Core.Path.{_≡_, refl, sym, ap₂, _∙_}
 use mathlib.Core.Bool.{Bool, true, false, cond}
-use mathlib.Core.List.{List, [], _∷_}
+use mathlib.Core.List.{List, [], _∷_, _++_}
 use mathlib.Core.Logic.{_⊎_, inl, inr}
 use Prim.Native.Nat.{ℕ, _+_, _≤_, _<_}
 use native.Mathlib.Omega.{arith}
 use lib.Dec.{leb}
-use lib.ListN.{length}
+use lib.ListN.{length, drop}
 use borrow.Author.Tests.{leb-true, leb-false}
 use Rattle.refusals.specs.First.{Check, Verdict, accepted, refused, first, byVerdict}
 use Rattle.refusals.proofs.Laws.{passed}
 use Rattle.block.specs.Block.{encodeAnswer}
 use Rattle.sending.specs.Answer as Sending
+use Rattle.receiving.specs.Receive.{receivedVectors}
 use Rattle.receiving.specs.Answer as Receiving
+use Rattle.counters.specs.Counters.{updated, countersAfter}
+use Rattle.counters.specs.declared.Counters.{Counters}
 use Rattle.records.specs.Record as Records
-use Rattle.demands.specs.Demand1.{NoneApplies, FirstApplies, Outcome, succeeds, refuses, Demand1OfSend, Demand1OfReceive, Demand1OfWrite, Demand1OfRead, Demand1OfEncode}
+use Rattle.demands.specs.Demand1.{NoneApplies, FirstApplies, Outcome, succeeds, refuses, Demand1OfSend, Demand1OfReceive, Demand1OfReceiveCounting, Demand1OfWrite, Demand1OfRead, Demand1OfEncode}
 
 -- ---- the verdict on a list of refusals, and the row that it comes from
 
@@ -102,6 +105,24 @@ demand-1-of-send bytes start room r room′ p = with-room (Sending.sendChecks by
 pub demand-1-of-receive : Demand1OfReceive
 unfolding Receiving.receiveAnswer Receiving.receiveRoom
 demand-1-of-receive line room r room′ p = with-room (Receiving.receiveChecks (length line) (length room)) _ _ _ _ _ _ (p .0) (p .1)
+
+-- receiving with a lent record of counters
+pub demand-1-of-receive-counting : Demand1OfReceiveCounting
+unfolding Receiving.receiveAnswer Receiving.receiveRoom
+demand-1-of-receive-counting line room c r room′ c′ p = outcome checks _ _ _ (by (first checks) (p .0 .0) (p .0 .1) (p .1))
+  where
+    checks : List Check
+    checks = Receiving.receiveChecks (length line) (length room)
+
+    by : (v : Verdict) → Receiving.answerOf r ≡ byVerdict v (Receiving.received (Receiving.summaryOf line)) Receiving.refused
+        → room′ ≡ byVerdict v (receivedVectors line ++ drop (length (receivedVectors line)) room) (λ number place. room)
+        → c′ ≡ countersAfter c (byVerdict v (Receiving.received (Receiving.summaryOf line)) Receiving.refused)
+        → _≡_ {A = Receiving.ReceiveAnswer × List ℕ × Counters} (Receiving.answerOf r, room′, c′)
+        (byVerdict v
+        (Receiving.received (Receiving.summaryOf line), receivedVectors line ++ drop (length (receivedVectors line)) room, updated c (Receiving.summaryOf line .counts) (Receiving.summaryOf line .handed))
+        (λ number place. (Receiving.refused number place, room, c)))
+    by accepted e f g = λ i. (e i, f i, g i)
+    by (refused n q) e f g = λ i. (e i, f i, g i)
 
 -- writing a record
 pub demand-1-of-write : Demand1OfWrite

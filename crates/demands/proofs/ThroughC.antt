@@ -1,10 +1,10 @@
 -- Demand 1 of the C boundary, proved over the definitions. Assumes nothing.
 use mathlib.Core.Path.{_≡_, refl, sym, ap, _∙_, subst}
-use mathlib.Core.Bool.{Bool, true, false, cond, true≢false}
+use mathlib.Core.Bool.{Bool, true, false, cond, _||_, true≢false}
 use mathlib.Core.List.{List, [], _∷_, _++_}
 use Prim.Native.Nat.{ℕ, zero, suc, _+_, _*_}
 use lib.ListN.{length, drop, replicate}
-use borrow.Author.Tests.{ltb-true, ltb-false}
+use borrow.Author.Tests.{ltb-false}
 use Rattle.bits.specs.Bits.{bit, number, cut}
 use Rattle.refusals.specs.First.{Check, check, Verdict, accepted, refused, first, byVerdict}
 use Rattle.refusals.proofs.Laws.{passed}
@@ -12,8 +12,8 @@ use Rattle.sending.specs.Send.{sentLine}
 use Rattle.sending.specs.Answer as Sending
 use Rattle.receiving.specs.Receive.{receivedVectors}
 use Rattle.receiving.specs.Answer as Receiving
-use Rattle.holzmotte.specs.Boundary.{resultOf, after, summaryBytes, tooShort, summaryWith, sendVerdict, sendWords, sendResult, sendLine, sendSummary, receiveLength, receiveVerdict, receiveWords, receiveResult, receiveVectors, receiveSummary}
-use Rattle.holzmotte.proofs.Laws.{long-first, summary-short, summary-long}
+use Rattle.holzmotte.specs.Boundary.{resultOf, after, wordBytes, tooShort, summaryWith, countersIn, countersWith, shortSlice, sendVerdict, sendWords, sendResult, sendLine, sendSummary, receiveLength, receiveVerdict, receiveWords, receiveResult, receiveVectors, receiveSummary, receiveCounters}
+use Rattle.holzmotte.proofs.Laws.{first-after, summary-long}
 use Rattle.demands.specs.ThroughC.{zeroed, Demand1OfSendThroughC, Demand1OfReceiveThroughC}
 use Rattle.demands.proofs.Demand1.{outcome}
 
@@ -25,83 +25,90 @@ applied-row zero c cs e q = true≢false (sym e ∙ passed c cs q .0)
 applied-row (suc k) c [] e q = true≢false (sym e ∙ passed c [] q .0)
 applied-row (suc k) c (d ∷ cs) e q = applied-row k c cs e (passed d (after k c cs) q .1)
 
--- ---- a call of n summary words, whose checks are cs and the summary's after the first k of them
+-- so where all rows pass, it does not apply, and the others pass
+all-pass : (k : ℕ) (short : Bool) (cs : List Check) → first (after k (check 4 short) cs) ≡ accepted → (short ≡ false) × (first cs ≡ accepted)
+all-pass k true cs e = absurd (applied-row k (check 4 true) cs refl e)
+all-pass k false cs e = (refl, sym (first-after k (check 4 false) cs refl) ∙ e)
 
-module _ (n k : ℕ) (cs : List Check) (words zeros written room summary : List ℕ) (none : summaryBytes zeros ≡ replicate (8 * n) 0)
-    (r : ℕ) (room′ summary′ : List ℕ) where
+-- ---- a call of n summary words and other lent slices, whose checks are cs and, after the first k of them, one for short slices
+
+module _ {A : Type 0} (n k : ℕ) (short : Bool) (cs : List Check) (words summary : List ℕ) (written before : A)
+    (none : wordBytes 8 (replicate n 0) ≡ replicate (8 * n) 0) (own : short ≡ false → tooShort 8 n (length summary) ≡ false)
+    (r : ℕ) (rest′ : A) (summary′ : List ℕ) where
   -- all its checks
   abbrev all : List Check
-  all = after k (check 4 (tooShort n (length summary))) cs
+  all = after k (check 4 short) cs
 
   -- what it came to by a verdict
   abbrev Came : Verdict → Type 0
   Came v =
-      _≡_ {A = ℕ × List ℕ × List ℕ} (r, room′, summary′)
-      (byVerdict v (0, written, summaryBytes words ++ drop (8 * n) summary) (λ number place. (number + 256 * place, room, zeroed n summary)))
+      _≡_ {A = ℕ × A × List ℕ} (r, rest′, summary′)
+      (byVerdict v (0, written, wordBytes 8 words ++ drop (8 * n) summary) (λ number place. (number + 256 * place, before, zeroed n summary)))
 
-  -- too short a summary: some row applies, and nothing changes
-  short : (v : Verdict) → (v ≡ accepted → ⊥) → tooShort n (length summary) ≡ true → r ≡ resultOf v
-      → room′ ≡ byVerdict v (byVerdict (first cs) written (λ number place. room)) (λ number place. room) → summary′ ≡ summary → Came v
-  short accepted not e a b c = absurd (not refl)
-  short (refused m p) not e a b c = λ i. (a i, b i, (c ∙ sym (ap (λ (t : Bool). cond t summary (replicate (8 * n) 0 ++ drop (8 * n) summary)) e)) i)
-
-  -- a summary that is long enough: all goes by the checks alone
-  enough : (v : Verdict) → tooShort n (length summary) ≡ false → r ≡ resultOf v
-      → room′ ≡ byVerdict v (byVerdict v written (λ number place. room)) (λ number place. room)
-      → summary′ ≡ summaryBytes (byVerdict v words (λ number place. zeros)) ++ drop (8 * n) summary → Came v
-  enough accepted e a b c = λ i. (a i, b i, c i)
-  enough (refused m p) e a b c =
-      λ i. (
-        a i,
-        b i,
-        (c ∙ ap (λ (z : List ℕ). z ++ drop (8 * n) summary) none
-            ∙ sym (ap (λ (t : Bool). cond t summary (replicate (8 * n) 0 ++ drop (8 * n) summary)) e)) i,
-      )
-
-  -- so in each case
-  through : r ≡ resultOf (first all)
-      → room′ ≡ byVerdict (first all) (byVerdict (first cs) written (λ number place. room)) (λ number place. room)
-      → summary′ ≡ summaryWith n (byVerdict (first cs) words (λ number place. zeros)) summary → Came (first all)
-  through a b c = go (tooShort n (length summary)) refl
+  through : r ≡ resultOf (first all) → rest′ ≡ byVerdict (first all) (byVerdict (first cs) written (λ number place. before)) (λ number place. before)
+      → summary′ ≡ summaryWith n (byVerdict (first all) words (λ number place. replicate n 0)) summary → Came (first all)
+  unfolding summaryWith
+  through a b c = go (first all) refl a b c
     where
-      go : (t : Bool) → tooShort n (length summary) ≡ t → Came (first all)
-      go true e =
-          short (first all) (applied-row k (check 4 (tooShort n (length summary))) cs e) e a b
-          (c ∙ summary-short n (byVerdict (first cs) words (λ number place. zeros)) summary (ltb-true (length summary) (8 * n) e))
-      go false e =
-          let same : first all ≡ first cs = long-first k n (length summary) cs (ltb-false (length summary) (8 * n) e) in
-          subst Came (sym same)
-          (enough (first cs) e (a ∙ ap resultOf same)
-          (b ∙ ap (λ (v : Verdict). byVerdict v (byVerdict (first cs) written (λ number place. room)) (λ number place. room)) same)
-          (c ∙ summary-long n (byVerdict (first cs) words (λ number place. zeros)) summary (ltb-false (length summary) (8 * n) e)))
+      go : (v : Verdict) → first all ≡ v → r ≡ resultOf v → rest′ ≡ byVerdict v (byVerdict (first cs) written (λ number place. before)) (λ number place. before)
+          → summary′ ≡ summaryWith n (byVerdict v words (λ number place. replicate n 0)) summary → Came v
+      go accepted e a b c =
+          let p = all-pass k short cs e in
+          λ i. (
+            a i,
+            (b ∙ ap (λ (v : Verdict). byVerdict v written (λ number place. before)) (p .1)) i,
+            (c ∙ summary-long n words summary (ltb-false (length summary) (8 * n) (own (p .0)))) i,
+          )
+      go (refused m q) e a b c =
+          λ i. (a i, b i, (c ∙ ap (λ (z : List ℕ). cond (tooShort 8 n (length summary)) summary (z ++ drop (8 * n) summary)) none) i)
+
+-- one more slice, by the same verdict
+fourth : (v : Verdict) (came success : ℕ × List ℕ × List ℕ) (refusal : ℕ → ℕ → ℕ × List ℕ × List ℕ) (slice′ written slice : List ℕ)
+    → came ≡ byVerdict v success refusal → slice′ ≡ byVerdict v written (λ number place. slice)
+    → _≡_ {A = ℕ × List ℕ × List ℕ × List ℕ} (came .0, came .1, came .2, slice′)
+    (byVerdict v (success .0, success .1, success .2, written) (λ number place. (refusal number place .0, refusal number place .1, refusal number place .2, slice)))
+fourth accepted came success refusal slice′ written slice e f = λ i. (e i .0, e i .1, e i .2, f i)
+fourth (refused m q) came success refusal slice′ written slice e f = λ i. (e i .0, e i .1, e i .2, f i)
 
 -- ---- the two functions
 
 -- sending
 pub demand-1-of-send-through-c : Demand1OfSendThroughC
-unfolding sendResult sendLine sendSummary sendVerdict Sending.sendRoom Sending.sendAnswer cut bit number
+unfolding sendResult sendLine sendSummary sendVerdict Sending.sendRoom cut bit number
 demand-1-of-send-through-c bytes start room summary r room′ summary′ p =
     outcome _ _ _ _
-    (through 3 3 checks (sendWords (Sending.sentFor bytes start)) (0 ∷ 0 ∷ 0 ∷ []) (sentLine bytes start ++ drop (length (sentLine bytes start)) room) room summary
-    refl r room′ summary′ (p .0) (p .1) (p .2 ∙ ap (λ (ws : List ℕ). summaryWith 3 ws summary) (by (first checks))))
+    (through 3 3 (tooShort 8 3 (length summary)) checks (sendWords (Sending.sentFor bytes start)) summary (sentLine bytes start ++ drop (length (sentLine bytes start)) room) room
+    refl (λ e. e) r room′ summary′ (p .0) (p .1) (p .2 ∙ ap (λ (ws : List ℕ). summaryWith 3 ws summary) (by (first (after 3 (check 4 (tooShort 8 3 (length summary))) checks)))))
   where
     checks : List Check
     checks = Sending.sendChecks bytes start (length room)
 
-    by : (v : Verdict) → sendWords (byVerdict v (Sending.sentFor bytes start) Sending.refused) ≡ byVerdict v (sendWords (Sending.sentFor bytes start)) (λ m q. 0 ∷ 0 ∷ 0 ∷ [])
+    by : (v : Verdict) → sendWords (byVerdict v (Sending.sentFor bytes start) Sending.refused) ≡ byVerdict v (sendWords (Sending.sentFor bytes start)) (λ m q. replicate 3 0)
     by accepted = refl
     by (refused m q) = refl
 
 -- receiving
 pub demand-1-of-receive-through-c : Demand1OfReceiveThroughC
-unfolding receiveResult receiveVectors receiveSummary receiveVerdict Receiving.receiveRoom Receiving.receiveAnswer cut bit number
-demand-1-of-receive-through-c line room summary r room′ summary′ p =
+unfolding receiveResult receiveVectors receiveSummary receiveCounters receiveVerdict Receiving.receiveRoom cut bit number
+demand-1-of-receive-through-c line room summary counters r room′ summary′ counters′ p =
     outcome _ _ _ _
-    (through receiveLength 1 checks (receiveWords (Receiving.received (Receiving.summaryOf line))) (replicate receiveLength 0) (receivedVectors line ++ drop (length (receivedVectors line)) room) room summary
-    refl r room′ summary′ (p .0) (p .1) (p .2 ∙ ap (λ (ws : List ℕ). summaryWith receiveLength ws summary) (by (first checks))))
+    (fourth (first (after 1 (check 4 short) checks)) (r, room′, summary′) _ _ counters′ _ counters
+    (through receiveLength 1 short checks (receiveWords (Receiving.received (Receiving.summaryOf line))) summary (receivedVectors line ++ drop (length (receivedVectors line)) room) room
+    refl own r room′ summary′ (p .0) (p .1) (p .2 ∙ ap (λ (ws : List ℕ). summaryWith receiveLength ws summary) (by (first (after 1 (check 4 short) checks)))))
+    (p .3))
   where
     checks : List Check
     checks = Receiving.receiveChecks (length line) (length room)
+
+    short : Bool
+    short = shortSlice (length summary) (length counters)
+
+    left : (a b : Bool) → a || b ≡ false → a ≡ false
+    left true b e = e
+    left false b e = refl
+
+    own : short ≡ false → tooShort 8 receiveLength (length summary) ≡ false
+    own e = left (tooShort 8 receiveLength (length summary)) (tooShort 4 8 (length counters)) e
 
     by : (v : Verdict) → receiveWords (byVerdict v (Receiving.received (Receiving.summaryOf line)) Receiving.refused) ≡ byVerdict v (receiveWords (Receiving.received (Receiving.summaryOf line))) (λ m q. replicate receiveLength 0)
     by accepted = refl

@@ -15,10 +15,12 @@ use Rattle.sending.specs.declared.Sent.{Sent}
 use Rattle.receiving.specs.Receive.{receivedVectors}
 use Rattle.receiving.specs.Answer as Receiving
 use Rattle.receiving.specs.declared.Received.{Received}
+use Rattle.counters.specs.Counters.{updated}
+use Rattle.counters.specs.declared.Counters.{Counters}
 use Rattle.records.specs.Record as Records
 use Rattle.records.specs.declared.Found.{Found}
 use Rattle.records.specs.declared.Written.{Written}
-use Rattle.demands.specs.Promises.{Sends, Receives, Finds, Writes}
+use Rattle.demands.specs.Promises.{Sends, Receives, ReceivesCounting, Finds, Writes}
 
 -- no row of a list of refusals applies
 abbrev pub NoneApplies : List Check → Type 0
@@ -56,6 +58,18 @@ Demand1OfReceive =
     (Receiving.answerOf r, room′)
     (Receiving.received (Receiving.summaryOf line), receivedVectors line ++ drop (length (receivedVectors line)) room)
     (λ number place. (Receiving.refused number place, room))
+
+-- receiving with a lent record of counters
+abbrev pub Demand1OfReceiveCounting : Type 0
+Demand1OfReceiveCounting =
+    (line room : List ℕ) (c : Counters) (r : Received) (room′ : List ℕ) (c′ : Counters) → ReceivesCounting line room c r room′ c′
+    → Outcome {A = Receiving.ReceiveAnswer × List ℕ × Counters} (Receiving.receiveChecks (length line) (length room))
+    (Receiving.answerOf r, room′, c′) (
+      Receiving.received (Receiving.summaryOf line),
+      receivedVectors line ++ drop (length (receivedVectors line)) room,
+      updated c (Receiving.summaryOf line .counts) (Receiving.summaryOf line .handed),
+    )
+    (λ number place. (Receiving.refused number place, room, c))
 
 -- writing a record
 abbrev pub Demand1OfWrite : Type 0

@@ -7,6 +7,8 @@ use Rattle.sending.specs.Answer as Sending
 use Rattle.sending.specs.declared.Sent.{Sent}
 use Rattle.receiving.specs.Answer as Receiving
 use Rattle.receiving.specs.declared.Received.{Received}
+use Rattle.counters.specs.Counters.{countersAfter}
+use Rattle.counters.specs.declared.Counters.{Counters}
 use Rattle.records.specs.Record as Records
 use Rattle.records.specs.declared.Found.{Found}
 use Rattle.records.specs.declared.Written.{Written}
@@ -18,6 +20,10 @@ Sends bytes start room r room′ = (Sending.answerOf r ≡ Sending.sendAnswer by
 -- `receive` was lent `room` for the vectors, answered `r` and left `room′`
 abbrev pub Receives : (line room : List ℕ) (r : Received) (room′ : List ℕ) → Type 0
 Receives line room r room′ = (Receiving.answerOf r ≡ Receiving.receiveAnswer line (length room)) × (room′ ≡ Receiving.receiveRoom line room)
+
+-- `counters::receive` was lent `room` and the counters `c` too, answered `r` and left `room′` and `c′`
+abbrev pub ReceivesCounting : (line room : List ℕ) (c : Counters) (r : Received) (room′ : List ℕ) (c′ : Counters) → Type 0
+ReceivesCounting line room c r room′ c′ = Receives line room r room′ × (c′ ≡ countersAfter c (Receiving.receiveAnswer line (length room)))
 
 -- `records::read` looked at a place of a file's bytes and answered `r`
 abbrev pub Finds : (file : List ℕ) (place : ℕ) (r : Found) → Type 0

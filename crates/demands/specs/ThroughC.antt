@@ -1,6 +1,6 @@
--- Demand 1 of the C boundary. What a call comes to is its result, the room and the summary: a result is 0, or a refusal's number and 256
--- times its place; a refusal leaves zeros in the summary, and the room as it was. A summary too short for its words is refusal 4, after
--- 1, 2 and 3 in sending, after 1 in receiving.
+-- Demand 1 of the C boundary. What a call comes to is its result and the lent slices: a result is 0, or a refusal's number and 256 times
+-- its place; a refusal leaves zeros in the summary, and the room and the counters as they were. A summary too short for its words is
+-- refusal 4, after 1, 2 and 3 in sending, after 1 in receiving; so are counters too short.
 use Prim.Native.Nat.{ℕ, _+_, _*_}
 use mathlib.Core.Path.{_≡_}
 use mathlib.Core.Bool.{cond}
@@ -11,6 +11,7 @@ use Rattle.sending.specs.Send.{sentLine}
 use Rattle.sending.specs.Answer as Sending
 use Rattle.receiving.specs.Receive.{receivedVectors}
 use Rattle.receiving.specs.Answer as Receiving
+use Rattle.counters.specs.Counters.{updated}
 use Rattle.holzmotte.specs.Boundary as Boundary
 use Rattle.demands.specs.Demand1.{Outcome}
 
@@ -21,39 +22,42 @@ SendsThroughC bytes start room summary r room′ summary′ =
     × (room′ ≡ Boundary.sendLine bytes start room (length summary))
     × (summary′ ≡ Boundary.sendSummary bytes start (length room) summary)
 
--- `holzmotte_receive`, through C, was lent `room` and `summary`, returned `r` and left `room′` and `summary′`
-abbrev pub ReceivesThroughC : (line room summary : List ℕ) (r : ℕ) (room′ summary′ : List ℕ) → Type 0
-ReceivesThroughC line room summary r room′ summary′ =
-    (r ≡ Boundary.receiveResult (length line) (length room) (length summary))
-    × (room′ ≡ Boundary.receiveVectors line room (length summary))
-    × (summary′ ≡ Boundary.receiveSummary line (length room) summary)
+-- `holzmotte_receive`, through C, was lent `room`, `summary` and `counters`, returned `r` and left `room′`, `summary′` and `counters′`
+abbrev pub ReceivesThroughC : (line room summary counters : List ℕ) (r : ℕ) (room′ summary′ counters′ : List ℕ) → Type 0
+ReceivesThroughC line room summary counters r room′ summary′ counters′ =
+    (r ≡ Boundary.receiveResult (length line) (length room) (length summary) (length counters))
+    × (room′ ≡ Boundary.receiveVectors line room (length summary) (length counters))
+    × (summary′ ≡ Boundary.receiveSummary line (length room) summary (length counters))
+    × (counters′ ≡ Boundary.receiveCounters line (length room) (length summary) counters)
 
 -- the summary of a refusal: zeros for its words; one too short for them stays unchanged
 abbrev pub zeroed : (words : ℕ) (summary : List ℕ) → List ℕ
-zeroed words summary = cond (Boundary.tooShort words (length summary)) summary (replicate (8 * words) 0 ++ drop (8 * words) summary)
+zeroed words summary = cond (Boundary.tooShort 8 words (length summary)) summary (replicate (8 * words) 0 ++ drop (8 * words) summary)
 
 -- sending
 abbrev pub Demand1OfSendThroughC : Type 0
 Demand1OfSendThroughC =
     (bytes : List ℕ) (start : ℕ) (room summary : List ℕ) (r : ℕ) (room′ summary′ : List ℕ)
     → SendsThroughC bytes start room summary r room′ summary′
-    → Outcome {A = ℕ × List ℕ × List ℕ} (Boundary.after 3 (check 4 (Boundary.tooShort 3 (length summary))) (Sending.sendChecks bytes start (length room)))
+    → Outcome {A = ℕ × List ℕ × List ℕ} (Boundary.after 3 (check 4 (Boundary.tooShort 8 3 (length summary))) (Sending.sendChecks bytes start (length room)))
     (r, room′, summary′) (
       0,
       sentLine bytes start ++ drop (length (sentLine bytes start)) room,
-      Boundary.summaryBytes (Boundary.sendWords (Sending.sentFor bytes start)) ++ drop 24 summary,
+      Boundary.wordBytes 8 (Boundary.sendWords (Sending.sentFor bytes start)) ++ drop 24 summary,
     )
     (λ number place. (number + 256 * place, room, zeroed 3 summary))
 
 -- receiving
 abbrev pub Demand1OfReceiveThroughC : Type 0
 Demand1OfReceiveThroughC =
-    (line room summary : List ℕ) (r : ℕ) (room′ summary′ : List ℕ)
-    → ReceivesThroughC line room summary r room′ summary′
-    → Outcome {A = ℕ × List ℕ × List ℕ} (Boundary.after 1 (check 4 (Boundary.tooShort Boundary.receiveLength (length summary))) (Receiving.receiveChecks (length line) (length room)))
-    (r, room′, summary′) (
+    (line room summary counters : List ℕ) (r : ℕ) (room′ summary′ counters′ : List ℕ)
+    → ReceivesThroughC line room summary counters r room′ summary′ counters′
+    → Outcome {A = ℕ × List ℕ × List ℕ × List ℕ}
+    (Boundary.after 1 (check 4 (Boundary.shortSlice (length summary) (length counters))) (Receiving.receiveChecks (length line) (length room)))
+    (r, room′, summary′, counters′) (
       0,
       receivedVectors line ++ drop (length (receivedVectors line)) room,
-      Boundary.summaryBytes (Boundary.receiveWords (Receiving.received (Receiving.summaryOf line))) ++ drop (8 * Boundary.receiveLength) summary,
+      Boundary.wordBytes 8 (Boundary.receiveWords (Receiving.received (Receiving.summaryOf line))) ++ drop (8 * Boundary.receiveLength) summary,
+      Boundary.countersWith (updated (Boundary.countersIn counters) (Receiving.summaryOf line .counts) (Receiving.summaryOf line .handed)) counters,
     )
-    (λ number place. (number + 256 * place, room, zeroed Boundary.receiveLength summary))
+    (λ number place. (number + 256 * place, room, zeroed Boundary.receiveLength summary, counters))

@@ -1,5 +1,5 @@
--- Laws of checks with one more among them, and of a summary's bytes. Assumes nothing.
-use Prim.Native.Nat.{ℕ, zero, suc, zero-le, _+_, _*_, _≤_, _<_}
+-- Laws of checks with one more among them, and of words in a slice. Assumes nothing.
+use Prim.Native.Nat.{ℕ, zero, suc, zero-le, _+_, _*_, _^_, _≤_, _<_}
 use mathlib.Core.Path.{_≡_, refl, sym, ap, ap₂, _∙_}
 use mathlib.Core.Bool.{false, cond}
 use mathlib.Core.List.{List, [], _∷_, _++_, append-assoc, append-nil}
@@ -9,9 +9,11 @@ use lib.ListN.{length, getD, take, drop, length-append}
 use lib.Seq.{take-at, drop-at, drop-drop, take-suc, take-all, length-take-le}
 use borrow.Author.Tests.{lt-ltb, le-ltb}
 use Rattle.bits.specs.Bits.{bit, cut}
-use Rattle.bits.proofs.Laws.{length-cut}
+use Rattle.bits.proofs.Laws.{length-cut, cut-same, bit-below, bit-above}
+use Rattle.bits.proofs.Lists.{cut-add}
 use Rattle.refusals.specs.First.{Check, check, Verdict, accepted, refused, first, byVerdict}
-use Rattle.holzmotte.specs.Boundary.{after, summaryBytes, tooShort, summaryWith}
+use Rattle.holzmotte.specs.Boundary.{after, wordBytes, tooShort, summaryWith, counterWords}
+use Rattle.counters.specs.declared.Counters.{Counters}
 
 -- one more check that does not apply changes nothing
 head-first : (c : Check) (cs ds : List Check) → first cs ≡ first ds → first (c ∷ cs) ≡ first (c ∷ ds)
@@ -22,14 +24,14 @@ skipped : (c : Check) (cs : List Check) → c .applies ≡ false → first (c �
 unfolding first
 skipped c cs e = rw e
 
-first-after : (k : ℕ) (c : Check) (cs : List Check) → c .applies ≡ false → first (after k c cs) ≡ first cs
+pub first-after : (k : ℕ) (c : Check) (cs : List Check) → c .applies ≡ false → first (after k c cs) ≡ first cs
 first-after zero c cs e = skipped c cs e
 first-after (suc k) c [] e = skipped c [] e
 first-after (suc k) c (d ∷ cs) e = head-first d (after k c cs) cs (first-after k c cs e)
 
 -- a summary that is long enough
-pub long-first : (k n bytes : ℕ) (cs : List Check) → 8 * n ≤ bytes → first (after k (check 4 (tooShort n bytes)) cs) ≡ first cs
-long-first k n bytes cs l = first-after k (check 4 (tooShort n bytes)) cs (le-ltb bytes (8 * n) l)
+pub long-first : (k n bytes : ℕ) (cs : List Check) → 8 * n ≤ bytes → first (after k (check 4 (tooShort 8 n bytes)) cs) ≡ first cs
+long-first k n bytes cs l = first-after k (check 4 (tooShort 8 n bytes)) cs (le-ltb bytes (8 * n) l)
 
 -- What sending or receiving with no room comes to, where the summary is too short: an answer is refusal 4.
 abbrev pub shortOf : Verdict → ℕ
@@ -48,26 +50,26 @@ pub summary-short : (n : ℕ) (words summary : List ℕ) → length summary < 8 
 unfolding summaryWith
 summary-short n words summary l = rw (lt-ltb (length summary) (8 * n) l)
 
-pub summary-long : (n : ℕ) (words summary : List ℕ) → 8 * n ≤ length summary → summaryWith n words summary ≡ summaryBytes words ++ drop (8 * n) summary
+pub summary-long : (n : ℕ) (words summary : List ℕ) → 8 * n ≤ length summary → summaryWith n words summary ≡ wordBytes 8 words ++ drop (8 * n) summary
 unfolding summaryWith
 summary-long n words summary l = rw (le-ltb (length summary) (8 * n) l)
 
-length-summary : (ws : List ℕ) → length (summaryBytes ws) ≡ 8 * length ws
+length-summary : (ws : List ℕ) → length (wordBytes 8 ws) ≡ 8 * length ws
 length-summary [] = refl
 length-summary (w ∷ ws) =
-    length-append (cut 8 (bit w) 8) (summaryBytes ws) ∙ omega (arith, length-cut 8 8 (bit w), length-summary ws)
+    length-append (cut 8 (bit w) 8) (wordBytes 8 ws) ∙ omega (arith, length-cut 8 8 (bit w), length-summary ws)
 
-one-more : (ws : List ℕ) (w : ℕ) → summaryBytes (ws ++ w ∷ []) ≡ summaryBytes ws ++ cut 8 (bit w) 8
+one-more : (ws : List ℕ) (w : ℕ) → wordBytes 8 (ws ++ w ∷ []) ≡ wordBytes 8 ws ++ cut 8 (bit w) 8
 one-more [] w = append-nil (cut 8 (bit w) 8)
 one-more (x ∷ ws) w =
-    ap (λ (l : List ℕ). cut 8 (bit x) 8 ++ l) (one-more ws w) ∙ sym (append-assoc (cut 8 (bit x) 8) (summaryBytes ws) (cut 8 (bit w) 8))
+    ap (λ (l : List ℕ). cut 8 (bit x) 8 ++ l) (one-more ws w) ∙ sym (append-assoc (cut 8 (bit x) 8) (wordBytes 8 ws) (cut 8 (bit w) 8))
 
 -- ---- words put one after the other
 
 -- i words are put, and the rest of the summary stands
 pub record Put (before words now : List ℕ) (i : ℕ) : Type 0 where
   pub inside : i ≤ length words
-  pub bytes : now ≡ summaryBytes (take i words) ++ drop (8 * i) before
+  pub bytes : now ≡ wordBytes 8 (take i words) ++ drop (8 * i) before
   pub same : length now ≡ length before
 
 module _ (before words : List ℕ) (room : 8 * length words ≤ length before) where
@@ -79,29 +81,49 @@ module _ (before words : List ℕ) (room : 8 * length words ≤ length before) w
       → length next ≡ length now → Put before words now i → Put before words next (i + 1)
   put-next now next i l e m p = record { inside = omega arith; bytes = bytes; same = m ∙ p .same }
     where
-      n : length (summaryBytes (take i words)) ≡ 8 * i
+      n : length (wordBytes 8 (take i words)) ≡ 8 * i
       n = length-summary (take i words) ∙ ap (λ (k : ℕ). 8 * k) (length-take-le i words (p .inside))
 
-      head : take (8 * i) now ≡ summaryBytes (take i words)
-      head = ap (take (8 * i)) (p .bytes) ∙ take-at (summaryBytes (take i words)) (drop (8 * i) before) (8 * i) n
+      head : take (8 * i) now ≡ wordBytes 8 (take i words)
+      head = ap (take (8 * i)) (p .bytes) ∙ take-at (wordBytes 8 (take i words)) (drop (8 * i) before) (8 * i) n
 
       rest : drop (8 * i + 8) now ≡ drop (8 * (i + 1)) before
       rest =
           let k : 8 * i + 8 ≡ 8 * (i + 1) = omega arith in
           sym (drop-drop 8 (8 * i) now)
-          ∙ ap (drop 8) (ap (drop (8 * i)) (p .bytes) ∙ drop-at (summaryBytes (take i words)) (drop (8 * i) before) (8 * i) n)
+          ∙ ap (drop 8) (ap (drop (8 * i)) (p .bytes) ∙ drop-at (wordBytes 8 (take i words)) (drop (8 * i) before) (8 * i) n)
           ∙ drop-drop 8 (8 * i) before
           ∙ ap (λ (n : ℕ). drop n before) k
 
-      more : summaryBytes (take (i + 1) words) ≡ summaryBytes (take i words) ++ cut 8 (bit (getD words i 0)) 8
-      more = ap (λ (k : ℕ). summaryBytes (take k words)) (add-one i) ∙ ap summaryBytes (take-suc words i 0 l) ∙ one-more (take i words) (getD words i 0)
+      more : wordBytes 8 (take (i + 1) words) ≡ wordBytes 8 (take i words) ++ cut 8 (bit (getD words i 0)) 8
+      more = ap (λ (k : ℕ). wordBytes 8 (take k words)) (add-one i) ∙ ap (wordBytes 8) (take-suc words i 0 l) ∙ one-more (take i words) (getD words i 0)
 
-      bytes : next ≡ summaryBytes (take (i + 1) words) ++ drop (8 * (i + 1)) before
+      bytes : next ≡ wordBytes 8 (take (i + 1) words) ++ drop (8 * (i + 1)) before
       bytes =
           e ∙ ap₂ (λ (x y : List ℕ). x ++ cut 8 (bit (getD words i 0)) 8 ++ y) head rest
           ∙ ap (λ (x : List ℕ). x ++ drop (8 * (i + 1)) before) (sym more)
 
-  pub put-done : (now : List ℕ) (i : ℕ) → length words ≤ i → Put before words now i → now ≡ summaryBytes words ++ drop (8 * length words) before
+  pub put-done : (now : List ℕ) (i : ℕ) → length words ≤ i → Put before words now i → now ≡ wordBytes 8 words ++ drop (8 * length words) before
   put-done now i l p =
       let n : i ≡ length words = omega (arith, p .inside) in
-      p .bytes ∙ ap₂ (λ (ws : List ℕ) (k : ℕ). summaryBytes ws ++ drop (8 * k) before) (take-all i words l) n
+      p .bytes ∙ ap₂ (λ (ws : List ℕ) (k : ℕ). wordBytes 8 ws ++ drop (8 * k) before) (take-all i words l) n
+
+-- ---- two numbers of 32 bits in one word
+
+pub pair-bytes : (a b : ℕ) → a < 2 ^ 32 → cut 8 (bit (a + 4294967296 * b)) 8 ≡ cut 8 (bit a) 4 ++ cut 8 (bit b) 4
+pair-bytes a b l =
+    let e : a + 4294967296 * b ≡ b * 2 ^ 32 + a = omega arith in
+    ap (λ (n : ℕ). cut 8 (bit n) 8) e ∙ cut-add 8 4 4 (bit (b * 2 ^ 32 + a))
+    ∙ ap₂ _++_ (cut-same 8 4 _ _ (λ i h. bit-below b 32 a i h)) (cut-same 8 4 _ _ (λ i h. bit-above b 32 a i l))
+
+-- the counters, two in a word
+pub counters-put : (c : Counters) (p q r s : ℕ) (rest : List ℕ) → cut 8 (bit p) 8 ≡ cut 8 (bit (c .tested)) 4 ++ cut 8 (bit (c .slips)) 4
+    → cut 8 (bit q) 8 ≡ cut 8 (bit (c .headers)) 4 ++ cut 8 (bit (c .types)) 4 → cut 8 (bit r) 8 ≡ cut 8 (bit (c .codes)) 4 ++ cut 8 (bit (c .sets)) 4
+    → cut 8 (bit s) 8 ≡ cut 8 (bit (c .begun)) 4 ++ cut 8 (bit (c .replaced)) 4
+    → wordBytes 8 (p ∷ q ∷ r ∷ s ∷ []) ++ rest ≡ wordBytes 4 (counterWords c) ++ rest
+counters-put c p q r s rest ep eq er es =
+    ap (λ (l : List ℕ). l ++ rest) (two p _ _ _ _ ep (two q _ _ _ _ eq (two r _ _ _ _ er (two s _ _ [] [] es refl))))
+  where
+    two : (w a b : ℕ) (l m : List ℕ) → cut 8 (bit w) 8 ≡ cut 8 (bit a) 4 ++ cut 8 (bit b) 4 → l ≡ m
+        → cut 8 (bit w) 8 ++ l ≡ cut 8 (bit a) 4 ++ (cut 8 (bit b) 4 ++ m)
+    two w a b l m e f = ap₂ _++_ e f ∙ append-assoc (cut 8 (bit a) 4) (cut 8 (bit b) 4) m

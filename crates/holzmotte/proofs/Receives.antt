@@ -1,18 +1,21 @@
--- Receiving through C, case by case. Assumes nothing.
+-- Receiving through C, case by case: a slice too short, an answer, a refusal. Assumes nothing.
 use Prim.Native.Nat.{ℕ, _+_, _*_, _/_, _≤_, _<_}
 use mathlib.Core.Path.{_≡_, refl, sym, ap, ap₂, _∙_}
-use mathlib.Core.Bool.{Bool, true, false}
+use mathlib.Core.Bool.{Bool, true, false, cond, _||_, true≢false}
 use mathlib.Core.List.{List, [], _∷_, _++_}
 use native.Mathlib.Omega.{arith}
-use lib.ListN.{length, drop}
+use native.Mathlib.Nat.{add-zero}
+use lib.ListN.{length, drop, replicate}
 use lib.Dec.{ltb}
-use borrow.Author.Tests.{lt-ltb}
+use borrow.Author.Tests.{ltb-false}
 use Rattle.refusals.specs.First.{check, Verdict, accepted, refused, first, byVerdict}
 use Rattle.receiving.specs.Answer.{ReceiveAnswer, received, receiveChecks, summaryOf, receiveAnswer, receiveRoom}
 use Rattle.receiving.specs.Answer as Answer
 use Rattle.receiving.specs.declared.Summary.{Summary}
-use Rattle.holzmotte.specs.Boundary.{resultOf, after, summaryBytes, flagWord, tooShort, receiveLength, receiveVerdict, receiveWords, receiveResult, receiveVectors, receiveSummary}
-use Rattle.holzmotte.proofs.Laws.{long-first, shortOf, kept, summary-short, summary-long}
+use Rattle.counters.specs.Counters.{updated, countersAfter}
+use Rattle.counters.specs.declared.Counters.{Counters}
+use Rattle.holzmotte.specs.Boundary.{resultOf, after, wordBytes, flagWord, tooShort, summaryWith, countersIn, countersWith, receiveLength, shortSlice, receiveVerdict, receiveWords, receiveResult, receiveVectors, receiveSummary, receiveCounters}
+use Rattle.holzmotte.proofs.Laws.{first-after, shortOf, summary-long}
 
 -- an answer tells the verdict
 abbrev pub verdictOf : ReceiveAnswer → Verdict
@@ -38,35 +41,34 @@ place-zero : (line room n p : ℕ) → first (receiveChecks line room) ≡ refus
 unfolding receiveChecks
 place-zero line room n p e = placed (ltb 825000 line) (ltb room (10 * (8 * line / 66))) n p e
 
--- a summary too short: 1 comes before it, and it before all else
-refuses : (a b : Bool) {A : Type 0} (success before : A)
-    → byVerdict (first (check 1 a ∷ check 4 true ∷ check 4 b ∷ [])) success (λ n p. before) ≡ before
+-- a slice too short: 1 comes before it, and it before all else
+shortened : (a b : Bool) → first (check 1 a ∷ check 4 true ∷ check 4 b ∷ []) ≡ refused (cond a 1 4) 0
 unfolding first
-refuses true b s r = refl
-refuses false b s r = refl
+shortened true b = refl
+shortened false b = refl
 
-shortens : (a b b′ : Bool)
-    → resultOf (first (check 1 a ∷ check 4 true ∷ check 4 b ∷ [])) ≡ shortOf (first (check 1 a ∷ check 4 b′ ∷ []))
+shortly-one : (a b : Bool) → shortOf (first (check 1 a ∷ check 4 b ∷ [])) ≡ cond a 1 4
 unfolding first
-shortens true b b′ = refl
-shortens false b true = refl
-shortens false b false = refl
+shortly-one true b = refl
+shortly-one false true = refl
+shortly-one false false = refl
 
-module _ (line room summary : ℕ) (short : summary < 8 * receiveLength) where
-  short-result : receiveResult line room summary ≡ shortOf (first (receiveChecks line 0))
-  unfolding receiveResult receiveVerdict receiveChecks
-  short-result =
-      rw (lt-ltb summary (8 * receiveLength) short) (shortens (ltb 825000 line) (ltb room (10 * (8 * line / 66))) (ltb 0 (10 * (8 * line / 66))))
-
-  short-keeps : {A : Type 0} (success before : A) → byVerdict (receiveVerdict line room summary) success (λ n p. before) ≡ before
+module _ (line room summary counters : ℕ) (short : shortSlice summary counters ≡ true) where
+  short-verdict : receiveVerdict line room summary counters ≡ refused (cond (ltb 825000 line) 1 4) 0
   unfolding receiveVerdict receiveChecks
-  short-keeps success before =
-      rw (lt-ltb summary (8 * receiveLength) short) (refuses (ltb 825000 line) (ltb room (10 * (8 * line / 66))) success before)
+  short-verdict =
+      ap (λ (b : Bool). first (check 1 (ltb 825000 line) ∷ check 4 b ∷ check 4 (ltb room (10 * (8 * line / 66))) ∷ [])) short
+      ∙ shortened (ltb 825000 line) (ltb room (10 * (8 * line / 66)))
 
-pub short-answer : (line : List ℕ) (room summary : ℕ) (answer : ReceiveAnswer) → answer ≡ receiveAnswer line 0 → summary < 8 * receiveLength
-    → shortOf (verdictOf answer) ≡ receiveResult (length line) room summary
-short-answer line room summary answer e l =
-    ap shortOf (ap verdictOf e ∙ verdict-told line 0) ∙ sym (short-result (length line) room summary l)
+  short-result : shortOf (first (receiveChecks line 0)) ≡ receiveResult line room summary counters
+  unfolding receiveResult receiveChecks
+  short-result =
+      shortly-one (ltb 825000 line) (ltb 0 (10 * (8 * line / 66))) ∙ sym (add-zero (cond {A = ℕ} (ltb 825000 line) 1 4)) ∙ sym (ap resultOf short-verdict)
+
+pub short-answer : (line : List ℕ) (room summary counters : ℕ) (answer : ReceiveAnswer) → answer ≡ receiveAnswer line 0 → shortSlice summary counters ≡ true
+    → shortOf (verdictOf answer) ≡ receiveResult (length line) room summary counters
+short-answer line room summary counters answer e l =
+    ap shortOf (ap verdictOf e ∙ verdict-told line 0) ∙ short-result (length line) room summary counters l
 
 -- a refusal's place fits a result
 pub small : (line : List ℕ) (room number place : ℕ) → Answer.refused number place ≡ receiveAnswer line room → place ≤ 1000000
@@ -74,43 +76,85 @@ small line room number place e =
     let z : place ≡ 0 = place-zero (length line) room number place (sym (ap verdictOf e ∙ verdict-told line room)) in
     omega arith
 
--- with a summary too short
-pub shortly : (line room summary : List ℕ) (result : ℕ) → length summary < 8 * receiveLength
-    → result ≡ receiveResult (length line) (length room) (length summary)
-    → (result ≡ receiveResult (length line) (length room) (length summary))
-    × (room ≡ receiveVectors line room (length summary))
-    × (summary ≡ receiveSummary line (length room) summary)
-unfolding receiveVectors receiveSummary
-shortly line room summary result l e = (
-  e,
-  sym (short-keeps (length line) (length room) (length summary) l (receiveRoom line room) room),
-  sym (summary-short receiveLength (receiveWords (receiveAnswer line (length room))) summary l),
-)
+-- ---- what a call comes to
 
--- with a summary that is long enough
-pub answered : (line room summary room′ summary′ : List ℕ) (answer : ReceiveAnswer) → 8 * receiveLength ≤ length summary
-    → answer ≡ receiveAnswer line (length room) → room′ ≡ receiveRoom line room
-    → summary′ ≡ summaryBytes (receiveWords answer) ++ drop (8 * receiveLength) summary
-    → (resultOf (verdictOf answer) ≡ receiveResult (length line) (length room) (length summary))
-    × (room′ ≡ receiveVectors line room (length summary))
-    × (summary′ ≡ receiveSummary line (length room) summary)
-unfolding receiveResult receiveVerdict receiveVectors receiveSummary receiveRoom
-answered line room summary room′ summary′ answer l e r s =
-    let cs = receiveChecks (length line) (length room) in
-    let v : first (after 1 (check 4 (tooShort receiveLength (length summary))) cs) ≡ first cs = long-first 1 receiveLength (length summary) cs l in
-    let t : verdictOf answer ≡ first cs = ap verdictOf e ∙ verdict-told line (length room) in (
-      ap resultOf (t ∙ sym v),
-      r ∙ rw v (sym (kept (first cs) _ room)),
-      s ∙ ap (λ (a : ReceiveAnswer). summaryBytes (receiveWords a) ++ drop (8 * receiveLength) summary) e
-          ∙ sym (summary-long receiveLength (receiveWords (receiveAnswer line (length room))) summary l),
-    )
+module _ (line room summary counters : List ℕ) where
+  -- the result, and the three slices afterwards
+  abbrev pub Comes : ℕ → (room′ summary′ counters′ : List ℕ) → Type 0
+  Comes r room′ summary′ counters′ =
+      (r ≡ receiveResult (length line) (length room) (length summary) (length counters))
+      × (room′ ≡ receiveVectors line room (length summary) (length counters))
+      × (summary′ ≡ receiveSummary line (length room) summary (length counters))
+      × (counters′ ≡ receiveCounters line (length room) (length summary) counters)
+
+  -- by the verdict
+  abbrev verdict : Verdict
+  verdict = receiveVerdict (length line) (length room) (length summary) (length counters)
+
+  -- a refusal clears the summary and changes no other slice
+  refuses : (number place : ℕ) → verdict ≡ refused number place
+      → Comes (number + 256 * place) room (summaryWith receiveLength (replicate receiveLength 0) summary) counters
+  unfolding receiveResult receiveVectors receiveSummary receiveCounters
+  refuses number place v = (rw v, rw v, rw v, rw v)
+
+  -- with a slice too short
+  pub shortly : (r : ℕ) → shortSlice (length summary) (length counters) ≡ true → r ≡ receiveResult (length line) (length room) (length summary) (length counters)
+      → Comes r room (summaryWith receiveLength (replicate receiveLength 0) summary) counters
+  shortly r l e =
+      let t = refuses _ _ (short-verdict (length line) (length room) (length summary) (length counters) l) in
+      (e, t .1, t .2, t .3)
+
+  module _ (long : shortSlice (length summary) (length counters) ≡ false) where
+    -- with none too short, all goes by the checks of receiving
+    verdict-is : verdict ≡ first (receiveChecks (length line) (length room))
+    unfolding receiveVerdict
+    verdict-is = first-after 1 (check 4 (shortSlice (length summary) (length counters))) (receiveChecks (length line) (length room)) long
+
+    -- and both are long enough
+    neither : (a b : Bool) → a || b ≡ false → (a ≡ false) × (b ≡ false)
+    neither true b e = absurd (true≢false e)
+    neither false b e = (refl, e)
+
+    pub long-summary : 8 * receiveLength ≤ length summary
+    long-summary = ltb-false (length summary) (8 * receiveLength) (neither (tooShort 8 receiveLength (length summary)) (tooShort 4 8 (length counters)) long .0)
+
+    pub long-counters : 32 ≤ length counters
+    long-counters = ltb-false (length counters) 32 (neither (tooShort 8 receiveLength (length summary)) (tooShort 4 8 (length counters)) long .1)
+
+    -- a refusal
+    pub refused-so : (number place : ℕ) (room′ : List ℕ) → Answer.refused number place ≡ receiveAnswer line (length room) → room′ ≡ receiveRoom line room
+        → Comes (number + 256 * place) room′ (summaryWith receiveLength (replicate receiveLength 0) summary) counters
+    unfolding receiveRoom
+    refused-so number place room′ e r =
+        let c : first (receiveChecks (length line) (length room)) ≡ refused number place = sym (ap verdictOf e ∙ verdict-told line (length room)) in
+        let t = refuses number place (verdict-is ∙ c) in
+        (t .0, r ∙ rw c (t .1), t .2, t .3)
+
+    -- an answer
+    pub received-so : (s : Summary) (old new : Counters) (room′ summary′ counters′ : List ℕ) → received s ≡ receiveAnswer line (length room) → room′ ≡ receiveRoom line room
+        → summary′ ≡ wordBytes 8 (receiveWords (received s)) ++ drop (8 * receiveLength) summary
+        → old ≡ countersIn counters → new ≡ countersAfter old (receiveAnswer line (length room)) → counters′ ≡ countersWith new counters
+        → Comes 0 room′ summary′ counters′
+    unfolding receiveAnswer receiveResult receiveVectors receiveSummary receiveCounters
+    received-so s old new room′ summary′ counters′ e r w o n k =
+        let a : first (receiveChecks (length line) (length room)) ≡ accepted = sym (ap verdictOf e ∙ verdict-told line (length room)) in
+        let v : verdict ≡ accepted = verdict-is ∙ a in
+        let z : received s ≡ received (summaryOf line) = e ∙ ap (λ (u : Verdict). byVerdict u (received (summaryOf line)) Answer.refused) a in
+        let t : receiveAnswer line (length room) ≡ received (summaryOf line) = sym e ∙ z in (
+          sym (ap resultOf v),
+          r ∙ rw v refl,
+          w ∙ ap (λ (x : ReceiveAnswer). wordBytes 8 (receiveWords x) ++ drop (8 * receiveLength) summary) z
+              ∙ sym (summary-long receiveLength (receiveWords (received (summaryOf line))) summary long-summary) ∙ rw v refl,
+          k ∙ ap (λ (x : Counters). countersWith x counters) (n ∙ ap₂ countersAfter o t) ∙ rw v refl,
+        )
 
 -- the words, with the flags as they were made
 abbrev words : Summary → (l h a : ℕ) → List ℕ
 words s l h a =
-    s .counts .tested ∷ s .counts .slips ∷ l ∷ h ∷ s .vectors ∷ s .counts .headers ∷ s .counts .types ∷ s .counts .codes ∷ s .counts .sets ∷ a ∷ []
+    s .counts .tested ∷ s .counts .slips ∷ l ∷ h ∷ s .vectors ∷ s .counts .headers ∷ s .counts .types ∷ s .counts .codes ∷ s .counts .sets ∷ a
+    ∷ s .handed .begun ∷ s .handed .replaced ∷ []
 
 pub flagged : (s : Summary) (l h a : ℕ) (rest summary : List ℕ) → l ≡ flagWord (s .locked) → h ≡ flagWord (s .high) → a ≡ flagWord (s .alone)
-    → summary ≡ summaryBytes (words s l h a) ++ rest → summary ≡ summaryBytes (receiveWords (received s)) ++ rest
+    → summary ≡ wordBytes 8 (words s l h a) ++ rest → summary ≡ wordBytes 8 (receiveWords (received s)) ++ rest
 flagged s l h a rest summary e f g put =
-    put ∙ ap₂ (λ (x y : ℕ). summaryBytes (words s x y a) ++ rest) e f ∙ ap (λ (z : ℕ). summaryBytes (words s (flagWord (s .locked)) (flagWord (s .high)) z) ++ rest) g
+    put ∙ ap₂ (λ (x y : ℕ). wordBytes 8 (words s x y a) ++ rest) e f ∙ ap (λ (z : ℕ). wordBytes 8 (words s (flagWord (s .locked)) (flagWord (s .high)) z) ++ rest) g

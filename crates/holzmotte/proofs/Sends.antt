@@ -12,7 +12,7 @@ use Rattle.block.specs.Block.{highControl}
 use Rattle.sending.specs.Answer.{SendAnswer, sendChecks, sendAnswer, sendRoom}
 use Rattle.sending.specs.Answer as Answer
 use Rattle.sending.proofs.Verdicts.{verdictOf, verdict-told, place-small}
-use Rattle.holzmotte.specs.Boundary.{resultOf, after, summaryBytes, tooShort, sendVerdict, sendWords, sendResult, sendLine, sendSummary}
+use Rattle.holzmotte.specs.Boundary.{resultOf, after, wordBytes, tooShort, sendVerdict, sendWords, sendResult, sendLine, sendSummary}
 use Rattle.holzmotte.proofs.Laws.{long-first, shortOf, kept, summary-short, summary-long}
 
 -- a summary too short: 1, 2 and 3 come before it, and it before all else
@@ -73,23 +73,23 @@ unfolding sendLine sendSummary
 shortly vectors room summary start result l e = (
   e,
   sym (short-keeps vectors start (length room) (length summary) l (sendRoom vectors start room) room),
-  sym (summary-short 3 (sendWords (sendAnswer vectors start (length room))) summary l),
+  sym (summary-short 3 _ summary l),
 )
 
 -- with a summary that is long enough
 pub answered : (vectors room summary room′ summary′ : List ℕ) (start : ℕ) (answer : SendAnswer) → 8 * 3 ≤ length summary
     → answer ≡ sendAnswer vectors start (length room) → room′ ≡ sendRoom vectors start room
-    → summary′ ≡ summaryBytes (sendWords answer) ++ drop 24 summary
+    → summary′ ≡ wordBytes 8 (sendWords answer) ++ drop 24 summary
     → (resultOf (verdictOf answer) ≡ sendResult vectors start (length room) (length summary))
     × (room′ ≡ sendLine vectors start room (length summary))
     × (summary′ ≡ sendSummary vectors start (length room) summary)
-unfolding sendResult sendVerdict sendLine sendSummary sendRoom
+unfolding sendAnswer sendResult sendVerdict sendLine sendSummary sendRoom
 answered vectors room summary room′ summary′ start answer l e r s =
-    let v : first (after 3 (check 4 (tooShort 3 (length summary))) (sendChecks vectors start (length room))) ≡ first (sendChecks vectors start (length room)) =
+    let v : first (after 3 (check 4 (tooShort 8 3 (length summary))) (sendChecks vectors start (length room))) ≡ first (sendChecks vectors start (length room)) =
     long-first 3 3 (length summary) (sendChecks vectors start (length room)) l in
     let t : verdictOf answer ≡ first (sendChecks vectors start (length room)) = ap verdictOf e ∙ verdict-told vectors start (length room) in (
       ap resultOf (t ∙ sym v),
       r ∙ rw v (sym (kept (first (sendChecks vectors start (length room))) _ room)),
-      s ∙ ap (λ (a : SendAnswer). summaryBytes (sendWords a) ++ drop 24 summary) e
-          ∙ sym (summary-long 3 (sendWords (sendAnswer vectors start (length room))) summary l),
+      s ∙ ap (λ (a : SendAnswer). wordBytes 8 (sendWords a) ++ drop 24 summary) e
+          ∙ sym (summary-long 3 (sendWords (sendAnswer vectors start (length room))) summary l) ∙ rw v refl,
     )

@@ -1,15 +1,17 @@
 -- The C boundary, document 01, 'What the probe's library covers': "Through C the summary goes into a lent slice of its own, which
--- takes the zeros of a refusal; one too short for it is refusal 4 and stays unchanged." Where a room or a summary is a number here, it is
--- the length of the slice.
+-- takes the zeros of a refusal; one too short for it is refusal 4 and stays unchanged." Document 02, 3/13: receiving is lent its counters in
+-- a slice of their own. Where a room, a summary or the counters are a number here, it is the length of the slice.
 use Prim.Native.Nat.{ℕ, _+_, _*_}
-use mathlib.Core.Bool.{Bool, cond}
+use mathlib.Core.Bool.{Bool, cond, _||_}
 use mathlib.Core.List.{List, [], _∷_, _++_}
 use lib.ListN.{length, take, drop, replicate}
 use lib.Dec.{ltb}
-use Rattle.bits.specs.Bits.{bit, cut}
+use Rattle.bits.specs.Bits.{bit, number, lineBit, cut}
 use Rattle.refusals.specs.First.{Check, check, Verdict, accepted, refused, first, byVerdict}
 use Rattle.sending.specs.Answer as Send
 use Rattle.receiving.specs.Answer as Receive
+use Rattle.counters.specs.Counters.{updated}
+use Rattle.counters.specs.declared.Counters.{Counters}
 
 -- The result: 0, or a refusal's number and 256 times its place.
 abbrev pub resultOf : Verdict → ℕ
@@ -20,24 +22,24 @@ resultOf (refused number place) = number + 256 * place
 abbrev pub after : ℕ → Check → List Check → List Check
 after k c checks = take k checks ++ c ∷ drop k checks
 
--- ---- a summary: words of 64 bits, eight bytes each, the lowest first
+-- ---- words of k bytes each, the lowest byte first
 
-abbrev pub summaryBytes : List ℕ → List ℕ
-summaryBytes [] = []
-summaryBytes (w ∷ ws) = cut 8 (bit w) 8 ++ summaryBytes ws
+abbrev pub wordBytes : (k : ℕ) → List ℕ → List ℕ
+wordBytes k [] = []
+wordBytes k (w ∷ ws) = cut 8 (bit w) k ++ wordBytes k ws
 
--- whether a slice of so many bytes is too short for n words
-abbrev pub tooShort : (n bytes : ℕ) → Bool
-tooShort n bytes = ltb bytes (8 * n)
+-- whether a slice of so many bytes is too short for n words of k bytes
+abbrev pub tooShort : (k n bytes : ℕ) → Bool
+tooShort k n bytes = ltb bytes (k * n)
 
--- the slice once n words went to its start; one too short stays unchanged
+-- a summary has words of 64 bits: the slice once n of them went to its start; one too short stays unchanged
 unfoldable pub summaryWith : ℕ → List ℕ → List ℕ → List ℕ
-summaryWith n words summary = cond (tooShort n (length summary)) summary (summaryBytes words ++ drop (8 * n) summary)
+summaryWith n words summary = cond (tooShort 8 n (length summary)) summary (wordBytes 8 words ++ drop (8 * n) summary)
 
 -- ---- sending: refusals 1, 2, 3, then 4 for the summary or the room, then 5
 
 unfoldable pub sendVerdict : List ℕ → (start room summary : ℕ) → Verdict
-sendVerdict vectors start room summary = first (after 3 (check 4 (tooShort 3 summary)) (Send.sendChecks vectors start room))
+sendVerdict vectors start room summary = first (after 3 (check 4 (tooShort 8 3 summary)) (Send.sendChecks vectors start room))
 
 -- its three words: end state, end diagram state, replaced; zeros for a refusal
 abbrev pub sendWords : Send.SendAnswer → List ℕ
@@ -53,36 +55,78 @@ sendLine vectors start room summary =
     byVerdict (sendVerdict vectors start (length room) summary) (Send.sendRoom vectors start room) (λ number place. room)
 
 unfoldable pub sendSummary : List ℕ → (start room : ℕ) → List ℕ → List ℕ
-sendSummary vectors start room summary = summaryWith 3 (sendWords (Send.sendAnswer vectors start room)) summary
+sendSummary vectors start room summary =
+    summaryWith 3 (sendWords (byVerdict (sendVerdict vectors start room (length summary)) (Send.sentFor vectors start) Send.refused)) summary
 
--- ---- receiving: refusal 1, then 4 for the summary or the room
+-- ---- the counters: eight words of 32 bits
 
--- its summary has ten words
+-- word i of a slice
+abbrev pub counterAt : List ℕ → ℕ → ℕ
+counterAt bytes i = number 32 (λ j. lineBit bytes (32 * i + j))
+
+-- the counters that a slice holds, and their words
+abbrev pub countersIn : List ℕ → Counters
+countersIn bytes =
+    record {
+      tested = counterAt bytes 0;
+      slips = counterAt bytes 1;
+      headers = counterAt bytes 2;
+      types = counterAt bytes 3;
+      codes = counterAt bytes 4;
+      sets = counterAt bytes 5;
+      begun = counterAt bytes 6;
+      replaced = counterAt bytes 7;
+    }
+
+abbrev pub counterWords : Counters → List ℕ
+counterWords c = c .tested ∷ c .slips ∷ c .headers ∷ c .types ∷ c .codes ∷ c .sets ∷ c .begun ∷ c .replaced ∷ []
+
+-- the slice once counters went to its start
+abbrev pub countersWith : Counters → List ℕ → List ℕ
+countersWith c bytes = wordBytes 4 (counterWords c) ++ drop 32 bytes
+
+-- ---- receiving: refusal 1, then 4 for the summary, the counters or the room
+
+-- its summary has twelve words
 abbrev pub receiveLength : ℕ
-receiveLength = 10
+receiveLength = 12
 
-unfoldable pub receiveVerdict : (line room summary : ℕ) → Verdict
-receiveVerdict line room summary = first (after 1 (check 4 (tooShort receiveLength summary)) (Receive.receiveChecks line room))
+-- whether the summary or the counters are too short
+abbrev pub shortSlice : (summary counters : ℕ) → Bool
+shortSlice summary counters = tooShort 8 receiveLength summary || tooShort 4 8 counters
+
+unfoldable pub receiveVerdict : (line room summary counters : ℕ) → Verdict
+receiveVerdict line room summary counters = first (after 1 (check 4 (shortSlice summary counters)) (Receive.receiveChecks line room))
 
 -- 1 for true, 0 for false
 abbrev pub flagWord : Bool → ℕ
 flagWord b = cond b 1 0
 
--- tested, slips, locked, high, vectors; header, type, control code and ordered set code faults; the flag of the last vector; zeros for a
--- refusal
+-- tested, slips, locked, high, vectors; header, type, control code and ordered set code faults; the flag of the last vector; begun, replaced;
+-- zeros for a refusal
 abbrev pub receiveWords : Receive.ReceiveAnswer → List ℕ
 receiveWords (Receive.received s) =
     s .counts .tested ∷ s .counts .slips ∷ flagWord (s .locked) ∷ flagWord (s .high) ∷ s .vectors
-    ∷ s .counts .headers ∷ s .counts .types ∷ s .counts .codes ∷ s .counts .sets ∷ flagWord (s .alone) ∷ []
+    ∷ s .counts .headers ∷ s .counts .types ∷ s .counts .codes ∷ s .counts .sets ∷ flagWord (s .alone)
+    ∷ s .handed .begun ∷ s .handed .replaced ∷ []
 receiveWords (Receive.refused number place) = replicate receiveLength 0
 
-unfoldable pub receiveResult : (line room summary : ℕ) → ℕ
-receiveResult line room summary = resultOf (receiveVerdict line room summary)
+unfoldable pub receiveResult : (line room summary counters : ℕ) → ℕ
+receiveResult line room summary counters = resultOf (receiveVerdict line room summary counters)
 
--- the room and the summary afterwards
-unfoldable pub receiveVectors : (line room : List ℕ) → (summary : ℕ) → List ℕ
-receiveVectors line room summary =
-    byVerdict (receiveVerdict (length line) (length room) summary) (Receive.receiveRoom line room) (λ number place. room)
+-- the room, the summary and the counters afterwards: a refusal leaves the room and the counters as they were
+unfoldable pub receiveVectors : (line room : List ℕ) → (summary counters : ℕ) → List ℕ
+receiveVectors line room summary counters =
+    byVerdict (receiveVerdict (length line) (length room) summary counters) (Receive.receiveRoom line room) (λ number place. room)
 
-unfoldable pub receiveSummary : List ℕ → (room : ℕ) → List ℕ → List ℕ
-receiveSummary line room summary = summaryWith receiveLength (receiveWords (Receive.receiveAnswer line room)) summary
+unfoldable pub receiveSummary : List ℕ → (room : ℕ) → List ℕ → (counters : ℕ) → List ℕ
+receiveSummary line room summary counters =
+    summaryWith receiveLength
+    (receiveWords (byVerdict (receiveVerdict (length line) room (length summary) counters) (Receive.received (Receive.summaryOf line)) Receive.refused))
+    summary
+
+unfoldable pub receiveCounters : List ℕ → (room summary : ℕ) → List ℕ → List ℕ
+receiveCounters line room summary counters =
+    let s = Receive.summaryOf line in
+    byVerdict (receiveVerdict (length line) room summary (length counters))
+    (countersWith (updated (countersIn counters) (s .counts) (s .handed)) counters) (λ number place. counters)

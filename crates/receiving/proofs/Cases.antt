@@ -9,7 +9,7 @@ use Rattle.block.specs.Block.{localFaultVector, classOf}
 use Rattle.diagrams.specs.Lock.{lockFresh, lockOf, slipsOf, countedOf, invalidOf}
 use Rattle.diagrams.specs.Rate.{rateOf, windowOf}
 use Rattle.receiving.specs.Machine.{run, feed, filled, testedOf, linkOf, validOf}
-use Rattle.receiving.specs.Receive.{judge, lastIs, answers, stateOf, answerIn, ends, letsEnd, howMany, countsOf, runOf, vectorsOf, receivedVectors}
+use Rattle.receiving.specs.Receive.{judge, lastIs, answers, stateOf, answerIn, ends, letsEnd, howMany, countsOf, handedOf, runOf, vectorsOf, receivedVectors}
 use Rattle.receiving.specs.Answer.{summaryOf}
 use Rattle.receiving.proofs.Steps.{lockSteps}
 
@@ -19,8 +19,8 @@ unfolding receivedVectors vectorsOf runOf run feed filled lineBits lineBit liste
 nine-zeros = refl
 
 -- its counts
-nine-zeros-counts : summaryOf (replicate 9 0) ≡ record { counts = record { tested = 1; slips = 1; headers = 1; types = 0; codes = 0; sets = 0 }; locked = false; high = false; vectors = 1; alone = false }
-unfolding summaryOf lastIs countsOf vectorsOf runOf run feed filled lineBits lineBit listed streamBit bit number testedOf linkOf validOf answers judge stateOf answerIn ends letsEnd lockOf slipsOf countedOf invalidOf rateOf windowOf howMany classOf
+nine-zeros-counts : summaryOf (replicate 9 0) ≡ record { counts = record { tested = 1; slips = 1; headers = 1; types = 0; codes = 0; sets = 0 }; locked = false; high = false; vectors = 1; alone = false; handed = record { begun = 0; replaced = 0 } }
+unfolding summaryOf lastIs countsOf handedOf vectorsOf runOf run feed filled lineBits lineBit listed streamBit bit number testedOf linkOf validOf answers judge stateOf answerIn ends letsEnd lockOf slipsOf countedOf invalidOf rateOf windowOf howMany classOf
 nine-zeros-counts = refl
 
 -- ---- the lock's steps over headers, each by whether it is valid

@@ -10,14 +10,17 @@ use Rattle.bits.specs.Bits.{lineBits}
 use Rattle.diagrams.specs.declared.State.{State}
 use Rattle.diagrams.specs.declared.State.the-variants.{Init}
 use Rattle.receiving.specs.Machine.{Feed, Run, Tested, run}
-use Rattle.receiving.specs.Receive.{judge, isTerminate, judgedAlone, answers, countsOf, runOf, vectorsOf, receivedVectors}
+use Rattle.receiving.specs.Receive.{judge, isTerminate, judgedAlone, answers, countsOf, handedOf, runOf, judgedOf, vectorsOf, receivedVectors}
 use Rattle.receiving.specs.Answer.{summaryOf}
-use Rattle.receiving.specs.Loop.{heldIn, feedIn, settle, bytesOf, Settled, Fresh, Ends, written, heldState, heldBytes}
+use Rattle.receiving.specs.Loop.{heldIn, feedIn, settle, bytesOf, Settled, Fresh, Ends, written, heldState, heldBytes, heldHanded}
+use Rattle.receiving.specs.Counted.{noneHanded, plusHanded}
+use Rattle.receiving.specs.declared.Handed.{Handed}
 use Rattle.receiving.specs.declared.Summary.{Summary}
 use Rattle.receiving.specs.declared.Receiver.{Receiver}
 use Rattle.receiving.specs.declared.Progress.{Progress}
 use Rattle.receiving.proofs.Count.{length-answers, vectors-fit}
-use Rattle.receiving.proofs.Settle.{held-same, settled, last-bytes, bytes-append, alone-settled, alone-held}
+use Rattle.receiving.proofs.Counted.{hand-first, hand-append}
+use Rattle.receiving.proofs.Settle.{held-same, settled, last-bytes, bytes-append, alone-settled, alone-held, handed-held}
 
 module _ (line room : List ℕ) (r : Receiver) (f : Fresh r) (enough : 10 * (8 * length line / 66) ≤ length room) where
   -- a fresh receiver's run is that of the definition
@@ -90,7 +93,7 @@ module _ (line room : List ℕ) (r : Receiver) (f : Fresh r) (enough : 10 * (8 *
     -- whether the last block is judged alone
     alone-is : (s : State) (alone : Bool)
         → s ≡ heldState (p .receiver .have) (p .receiver .state) (p .receiver .held) true → alone ≡ cond (p .receiver .have) (isTerminate s) false
-        → alone ≡ judgedAlone (judge Init (runOf line .tested))
+        → alone ≡ judgedAlone (judgedOf line)
     unfolding heldIn
     alone-is s alone es ea =
         ea ∙ ap (λ (z : State). cond (p .receiver .have) (isTerminate z) false) es
@@ -99,14 +102,27 @@ module _ (line room : List ℕ) (r : Receiver) (f : Fresh r) (enough : 10 * (8 *
         ∙ ap (λ (z : Settled). judgedAlone (judge (z .state) (z .held))) settle-is
         ∙ sym (alone-settled Init (runOf line .tested))
 
+    -- what the vectors are counted for
+    handed-is : (n : Handed) → n ≡ heldHanded (p .receiver .have) (p .handed) (p .receiver .state) (p .receiver .held) true → n ≡ handedOf (judgedOf line)
+    unfolding heldIn
+    handed-is n en =
+        en ∙ handed-held (p .receiver .have) (p .handed) (p .receiver .state) (p .receiver .held)
+        ∙ ap₂ (λ (z : State) (h : List Tested). plusHanded (p .handed) (handedOf (judge z h))) (e .state) (e .held)
+        ∙ ap₂ (λ (z : Handed) (x : Settled). plusHanded z (handedOf (judge (x .state) (x .held)))) (e .handed ∙ ap (λ (x : Settled). handedOf (x .judged)) settle-is) settle-is
+        ∙ ap (λ (z : Handed). plusHanded z (handedOf (judge (σ .state) (σ .held)))) (sym (hand-first (handedOf (σ .judged))))
+        ∙ sym (hand-append noneHanded (σ .judged) (judge (σ .state) (σ .held)))
+        ∙ hand-first (handedOf (σ .judged ++ judge (σ .state) (σ .held)))
+        ∙ ap handedOf (sym (settled Init (runOf line .tested)))
+
     -- the summary is that of the definition
-    pub summary-is : (s : State) (alone : Bool)
+    pub summary-is : (s : State) (alone : Bool) (n : Handed)
         → s ≡ heldState (p .receiver .have) (p .receiver .state) (p .receiver .held) true → alone ≡ cond (p .receiver .have) (isTerminate s) false
+        → n ≡ heldHanded (p .receiver .have) (p .handed) (p .receiver .state) (p .receiver .held) true
         → _≡_ {A = Summary}
-        (record { counts = p .counts; locked = p .receiver .link .lock .locked; high = p .receiver .link .rate .high; vectors = p .counts .tested; alone = alone })
+        (record { counts = p .counts; locked = p .receiver .link .lock .locked; high = p .receiver .link .rate .high; vectors = p .counts .tested; alone = alone; handed = n })
         (summaryOf line)
     unfolding summaryOf countsOf vectorsOf feedIn
-    summary-is s alone es ea =
-        let n : p .counts ≡ countsOf (runOf line .tested) = e .counts ∙ ap (λ (z : Run). countsOf (z .tested)) run-is in
+    summary-is s alone n es ea en =
+        let c : p .counts ≡ countsOf (runOf line .tested) = e .counts ∙ ap (λ (z : Run). countsOf (z .tested)) run-is in
         let l : p .receiver .link ≡ runOf line .end .link = ap (λ (z : Feed). z .link) (e .feed) ∙ ap (λ (z : Run). z .end .link) run-is in
-        rw (n, l, length-answers, alone-is s alone es ea)
+        rw (c, l, length-answers, alone-is s alone es ea, handed-is n en)

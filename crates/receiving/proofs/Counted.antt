@@ -2,7 +2,7 @@
 use Prim.Native.Nat.{ℕ, suc, zero-le, _+_, _≤_, _<_}
 use mathlib.Core.Path.{_≡_, refl, sym, ap, _∙_}
 use mathlib.Core.Bool.{Bool, true, false, cond, not}
-use mathlib.Core.List.{List, [], _∷_}
+use mathlib.Core.List.{List, [], _∷_, _++_}
 use native.Mathlib.Omega.{arith}
 use native.Mathlib.Nat.{add-zero, zero-add, add-assoc}
 use lib.Dec.{T}
@@ -13,9 +13,10 @@ use Rattle.block.specs.declared.Class.the-variants as Class
 use Rattle.block.specs.declared.Reason.{Reason}
 use Rattle.block.specs.declared.Reason.the-variants.{Header, BlockType, ControlCode, SetCode}
 use Rattle.receiving.specs.Machine.{Tested}
-use Rattle.receiving.specs.Receive.{howMany, badFor, countsOf}
-use Rattle.receiving.specs.Counted.{noCounts, plus, reasoned, counted, Within}
+use Rattle.receiving.specs.Receive.{howMany, badFor, countsOf, Judged, begins, replaces, handedOf}
+use Rattle.receiving.specs.Counted.{noCounts, plus, reasoned, counted, Within, noneHanded, plusHanded, handOut, HandedWithin}
 use Rattle.receiving.specs.declared.Counts.{Counts}
+use Rattle.receiving.specs.declared.Handed.{Handed}
 
 -- what one block adds, and then those after it
 pub count-more : (c : Counts) (t : Tested) (ts : List Tested) → plus (counted c t) (countsOf ts) ≡ plus c (countsOf (t ∷ ts))
@@ -138,3 +139,39 @@ within-wide c n m w l =
       codes = omega (arith, w .codes);
       sets = omega (arith, w .sets);
     }
+
+-- ---- the counts of vectors handed out
+
+-- what one vector adds, and then those after it
+pub hand-more : (h : Handed) (j : Judged) (js : List Judged) → plusHanded (handOut h j) (handedOf js) ≡ plusHanded h (handedOf (j ∷ js))
+unfolding handOut handedOf howMany
+hand-more h j js = λ i. record { begun = more begins (h .begun) i; replaced = more replaces (h .replaced) i }
+  where
+    more : (test : Judged → Bool) (n : ℕ) → n + cond (test j) 1 0 + howMany test js ≡ n + (cond (test j) 1 0 + howMany test js)
+    more test n = add-assoc n (cond (test j) 1 0) (howMany test js)
+
+-- no vector adds nothing
+pub hand-end : (h : Handed) → plusHanded h (handedOf []) ≡ h
+unfolding handedOf howMany
+hand-end h = λ i. record { begun = add-zero (h .begun) i; replaced = add-zero (h .replaced) i }
+
+-- from nothing on
+pub hand-first : (h : Handed) → plusHanded noneHanded h ≡ h
+hand-first h = λ i. record { begun = zero-add (h .begun) i; replaced = zero-add (h .replaced) i }
+
+-- joined lists of vectors
+pub hand-append : (h : Handed) (a b : List Judged) → plusHanded h (handedOf (a ++ b)) ≡ plusHanded (plusHanded h (handedOf a)) (handedOf b)
+hand-append h [] b = ap (λ (z : Handed). plusHanded z (handedOf b)) (sym (hand-end h))
+hand-append h (j ∷ a) b =
+    sym (hand-more h j (a ++ b)) ∙ hand-append (handOut h j) a b ∙ ap (λ (z : Handed). plusHanded z (handedOf b)) (hand-more h j a)
+
+-- bounds
+pub handed-none : (n : ℕ) → HandedWithin n noneHanded
+handed-none n = record { begun = zero-le; replaced = zero-le }
+
+pub handed-next : (h : Handed) (j : Judged) (n m : ℕ) → HandedWithin n h → n < m → HandedWithin m (handOut h j)
+unfolding handOut
+handed-next h j n m w l = record { begun = omega (arith, w .begun, one-le (begins j)); replaced = omega (arith, w .replaced, one-le (replaces j)) }
+
+pub handed-wide : (h : Handed) (n m : ℕ) → HandedWithin n h → n ≤ m → HandedWithin m h
+handed-wide h n m w l = record { begun = omega (arith, w .begun); replaced = omega (arith, w .replaced) }

@@ -2,15 +2,15 @@
 use mathlib.Core.Path.{_≡_, refl}
 use mathlib.Core.Bool.{Bool, true, false, cond, _&&_}
 use mathlib.Core.List.{List, [], _∷_}
-use Rattle.block.specs.Block.{kindIn}
+use Rattle.block.specs.Block.{isT, kindIn}
 use Rattle.block.specs.declared.Kind.{Kind}
 use Rattle.block.specs.declared.Kind.the-variants.{D, C, S, T, E}
 use Rattle.diagrams.specs.Diagram.{afterIdle, afterData, afterError, diagramOf}
 use Rattle.diagrams.specs.declared.State.{State}
 use Rattle.diagrams.specs.declared.State.the-variants.{Init, Control, Data, Terminate, Error}
 use Rattle.receiving.specs.Machine.{Tested}
-use Rattle.receiving.specs.Receive.{ends, stateOf, judge, isTerminate, lastIs, judgedAlone}
-use Rattle.receiving.specs.Last.{isT, decodes, acceptedTerminate}
+use Rattle.receiving.specs.Receive.{ends, stateOf, judge, isTerminate, lastIs, judgedAlone, decodes}
+use Rattle.receiving.specs.Last.{acceptedTerminate}
 
 -- a step to T is a step by kind T to a state that answers the decoded block
 Fair : Kind → State → Type 0

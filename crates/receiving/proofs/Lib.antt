@@ -2,6 +2,7 @@ pub mod Runs
 pub mod Steps
 pub mod Reasons
 pub mod Last
+pub mod Begun
 pub mod Ranges
 pub mod Count
 pub mod Counted

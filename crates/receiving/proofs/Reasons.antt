@@ -24,7 +24,7 @@ use Rattle.receiving.specs.Reasons.{Taken, takenAt, takenFrom, takenOf, 
 
 -- ---- the blocks that are tested are those that were taken
 
-abbrev test : Taken → Tested
+abbrev pub test : Taken → Tested
 test t = testedOf (t .link) (t .header) (t .payload)
 
 map-append : (a b : List Taken) → map test (a ++ b) ≡ map test a ++ map test b

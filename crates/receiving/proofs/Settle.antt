@@ -1,5 +1,5 @@
 -- The vectors of all blocks but the last, the block held, and its bytes in the room. Assumes nothing.
-use Prim.Native.Nat.{ℕ, _+_, _≤_}
+use Prim.Native.Nat.{ℕ, _+_, _≤_, _<_}
 use mathlib.Core.Path.{_≡_, refl, sym, ap, ap₂, _∙_}
 use mathlib.Core.Bool.{Bool, true, false, cond}
 use mathlib.Core.List.{List, [], _∷_, _++_, append-assoc, append-nil, flatten}
@@ -11,10 +11,13 @@ use Rattle.decoding.specs.Vector.{vectorBytes}
 use Rattle.decoding.specs.declared.Vector.{Vector}
 use Rattle.diagrams.specs.declared.State.{State}
 use Rattle.receiving.specs.Machine.{Tested}
-use Rattle.receiving.specs.Receive.{letsEnd, ends, stateOf, answerIn, Judged, judge, answer, isTerminate, lastIs, judgedAlone}
-use Rattle.receiving.specs.Loop.{testedIn, Settled, settle, bytesOf, heldState, heldBytes}
+use Rattle.receiving.specs.Receive.{letsEnd, ends, stateOf, answerIn, Judged, judge, answer, isTerminate, lastIs, judgedAlone, handedOf}
+use Rattle.receiving.specs.Loop.{testedIn, Settled, settle, bytesOf, heldState, heldBytes, heldHanded}
+use Rattle.receiving.specs.Counted.{plusHanded, handOut, HandedWithin}
 use Rattle.receiving.specs.declared.Held.{Held}
+use Rattle.receiving.specs.declared.Handed.{Handed}
 use Rattle.receiving.proofs.Count.{length-answer}
+use Rattle.receiving.proofs.Counted.{hand-more, hand-end, handed-next, handed-wide}
 
 -- ---- bytes put into the room
 
@@ -56,25 +59,33 @@ held-same true s h e e′ = held-ten s h e ∙ sym (held-ten s h e′)
 held-same false s h e e′ = refl
 
 -- what answering it does to the room
-pub held-put : (have : Bool) (s : State) (h : Held) (e : Bool) (room room′ : List ℕ) (at : ℕ) (s′ : State) (v : Vector)
+pub held-put : (have : Bool) (s : State) (h : Held) (e : Bool) (room room′ : List ℕ) (at : ℕ) (n n′ : Handed) (s′ : State) (v : Vector)
     → have ≡ true → s′ ≡ stateOf s (testedIn h) e → vectorBytes v ≡ answerIn s′ (vectorBytes (h .vector))
-    → room′ ≡ take at room ++ (vectorBytes v ++ drop (at + 10) room)
+    → room′ ≡ take at room ++ (vectorBytes v ++ drop (at + 10) room) → n′ ≡ handOut n (record { state = s′; block = testedIn h })
     → (s′ ≡ heldState have s h e) × (at + 10 ≡ at + length (heldBytes have s h e))
     × (room′ ≡ take at room ++ (heldBytes have s h e ++ drop (at + length (heldBytes have s h e)) room))
-held-put have s h e room room′ at s′ v eh es ev er =
+    × (n′ ≡ heldHanded have n s h e)
+held-put have s h e room room′ at n n′ s′ v eh es ev er en =
     let b : heldBytes have s h e ≡ vectorBytes v =
     ap (λ (z : Bool). heldBytes z s h e) eh ∙ sym (ev ∙ ap (λ (u : State). answerIn u (vectorBytes (h .vector))) es) in
-    let n : length (heldBytes have s h e) ≡ 10 = ap length b in (
+    let l : length (heldBytes have s h e) ≡ 10 = ap length b in (
       es ∙ sym (ap (λ (z : Bool). heldState z s h e) eh),
-      ap (λ (k : ℕ). at + k) (sym n),
-      er ∙ sym (ap₂ (λ (x : List ℕ) (k : ℕ). take at room ++ (x ++ drop (at + k) room)) b n),
+      ap (λ (k : ℕ). at + k) (sym l),
+      er ∙ sym (ap₂ (λ (x : List ℕ) (k : ℕ). take at room ++ (x ++ drop (at + k) room)) b l),
+      en ∙ ap (λ (z : State). handOut n (record { state = z; block = testedIn h })) es ∙ sym (ap (λ (z : Bool). heldHanded z n s h e) eh),
     )
 
 -- where none is held, nothing changes
-pub none-put : (have : Bool) (s : State) (h : Held) (e : Bool) (room : List ℕ) (at : ℕ) → have ≡ false
+pub none-put : (have : Bool) (s : State) (h : Held) (e : Bool) (room : List ℕ) (at : ℕ) (n : Handed) → have ≡ false
     → (s ≡ heldState have s h e) × (at ≡ at + length (heldBytes have s h e))
     × (room ≡ take at room ++ (heldBytes have s h e ++ drop (at + length (heldBytes have s h e)) room))
-none-put have s h e room at eh = (rw eh, rw eh (sym (add-zero at)), rw (eh, add-zero) (sym (take-append-drop at room)))
+    × (n ≡ heldHanded have n s h e)
+none-put have s h e room at n eh = (rw eh, rw eh (sym (add-zero at)), rw (eh, add-zero) (sym (take-append-drop at room)), rw eh)
+
+-- it adds at most one to each count
+pub held-within : (have : Bool) (n : Handed) (s : State) (h : Held) (e : Bool) (m k : ℕ) → HandedWithin m n → m < k → HandedWithin k (heldHanded have n s h e)
+held-within true n s h e m k w l = handed-next n (record { state = stateOf s (testedIn h) e; block = testedIn h }) m k w l
+held-within false n s h e m k w l = handed-wide n m k w (omega arith)
 
 -- ---- one more block behind the one held
 
@@ -90,6 +101,15 @@ module _ (s : State) (h : Held) (t : Tested) (ts : List Tested) where
   unfolding settle flatten testedIn
   settle-bytes true = refl
   settle-bytes false = refl
+
+  -- the counts: that of the block held, and then those of the rest
+  pub settle-handed : (n : Handed) (have : Bool)
+      → plusHanded (heldHanded have n s h (letsEnd t)) (handedOf (settle (heldState have s h (letsEnd t)) (t ∷ ts) .judged))
+      ≡ plusHanded n (handedOf (settle s (holding have h ++ t ∷ ts) .judged))
+  unfolding settle testedIn
+  settle-handed n true =
+      hand-more n (record { state = stateOf s (testedIn h) (letsEnd t); block = testedIn h }) (settle (stateOf s (testedIn h) (letsEnd t)) (t ∷ ts) .judged)
+  settle-handed n false = refl
 
   -- the state at the end
   pub settle-state : (have : Bool) → settle s (holding have h ++ t ∷ ts) .state ≡ settle (heldState have s h (letsEnd t)) (t ∷ ts) .state
@@ -159,3 +179,11 @@ pub alone-held : (have : Bool) (s : State) (h : Held) → cond have (isTerminate
 unfolding judge ends lastIs
 alone-held true s h = refl
 alone-held false s h = refl
+
+-- the counts with its vector
+pub handed-held : (have : Bool) (n : Handed) (s : State) (h : Held) → heldHanded have n s h true ≡ plusHanded n (handedOf (judge s (holding have h)))
+unfolding judge ends
+handed-held true n s h =
+    let j : Judged = record { state = stateOf s (testedIn h) true; block = testedIn h } in
+    sym (hand-end (handOut n j)) ∙ hand-more n j []
+handed-held false n s h = sym (hand-end n)

@@ -16,19 +16,20 @@ use Rattle.carrying.proofs.Laws.{length-carried}
 use Rattle.diagrams.specs.Lock.{slipsOf}
 use Rattle.diagrams.specs.declared.State.{State}
 use Rattle.receiving.specs.Machine.{Feed, Run, Tested, run, linkOf, testedOf, validOf, headerOf, payloadOf}
-use Rattle.receiving.specs.Receive.{letsEnd, countsOf}
-use Rattle.receiving.specs.Counted.{noCounts, plus, counted, Within}
+use Rattle.receiving.specs.Receive.{letsEnd, countsOf, handedOf}
+use Rattle.receiving.specs.Counted.{noCounts, plus, counted, Within, noneHanded, plusHanded, HandedWithin}
 use Rattle.receiving.specs.Ranges.{InRange}
-use Rattle.receiving.specs.Loop.{testedIn, heldIn, feedIn, settle, bytesOf, Outcome, outcomeOf, outcome, Under, Turns, Ends, written, heldState, heldBytes}
+use Rattle.receiving.specs.Loop.{testedIn, heldIn, feedIn, settle, bytesOf, Outcome, outcomeOf, outcome, Under, Turns, Ends, written, heldState, heldBytes, heldHanded}
 use Rattle.receiving.specs.declared.Link.{Link}
 use Rattle.receiving.specs.declared.Held.{Held}
 use Rattle.receiving.specs.declared.Counts.{Counts}
+use Rattle.receiving.specs.declared.Handed.{Handed}
 use Rattle.receiving.specs.declared.Receiver.{Receiver}
 use Rattle.receiving.specs.declared.Progress.{Progress}
 use Rattle.receiving.proofs.Runs.{after, run-fill, run-skip, run-wait}
 use Rattle.receiving.proofs.Ranges.{range-next}
-use Rattle.receiving.proofs.Counted.{count-more, count-end, count-first, within-none, within-next, within-wide}
-use Rattle.receiving.proofs.Settle.{put-take, put-drop, put-length, settle-bytes, settle-state, settle-held, settle-last}
+use Rattle.receiving.proofs.Counted.{count-more, count-end, count-first, within-none, within-next, within-wide, hand-end, hand-first, handed-none, handed-wide}
+use Rattle.receiving.proofs.Settle.{put-take, put-drop, put-length, held-within, settle-bytes, settle-handed, settle-state, settle-held, settle-last}
 
 -- ---- the run from here, by what is taken
 
@@ -87,6 +88,7 @@ waited p t =
       pos = t .next;
       at = p .at;
       counts = p .counts;
+      handed = p .handed;
     }
 
 module _ (line room : List ℕ) (p : Progress) (u : Under line room p) (here : p .pos < 8 * length line) (t : Taken)
@@ -98,7 +100,7 @@ module _ (line room : List ℕ) (p : Progress) (u : Under line room p) (here : p
       let w = k .waits idle in
       let r = p .receiver in
       let shorter : r .skip ≡ false → length (carriedBits (r .carried)) < 65 = λ z. rw length-carried (w .short z) in
-      ap (outcomeOf (take (p .at) room) (r .state) (heldIn r) (p .counts))
+      ap (outcomeOf (take (p .at) room) (r .state) (heldIn r) (p .counts) (p .handed))
       (ap (λ (n : ℕ). run (feedOf (carriedBits (t .carried)) false (r .link)) (drop n (lineBits line))) (w .one)
       ∙ sym
       (wait-run (lineBits line) (p .pos) (r .skip) (carriedBits (r .carried)) (carriedBits (t .carried)) (r .link) (omega (arith, length-lineBits line))
@@ -116,6 +118,7 @@ module _ (line room : List ℕ) (p : Progress) (u : Under line room p) (here : p
               at = u .at;
               fits = subst (λ (o : Outcome). length (o .bytes) ≤ length room) (sym (waited-same idle)) (u .fits);
               counts = within-wide (p .counts) (p .pos) (t .next) (u .counts) (omega (arith, k .past));
+              handed = handed-wide (p .handed) (p .pos) (t .next) (u .handed) (omega (arith, k .past));
             };
         same = waited-same idle;
         past = k .past;
@@ -127,20 +130,21 @@ module _ (line room : List ℕ) (p : Progress) (u : Under line room p) (here : p
 -- ---- a turn that tests a block
 
 -- the receiver after the block
-abbrev pub moved : Progress → Taken → Link → Held → State → ℕ → Counts → Progress
-moved p t link h s at c =
+abbrev pub moved : Progress → Taken → Link → Held → State → ℕ → Counts → Handed → Progress
+moved p t link h s at c n =
     record {
       receiver = record { skip = h .slipped; carried = t .carried; link = link; state = s; have = true; held = h };
       pos = t .next;
       at = at;
       counts = c;
+      handed = n;
     }
 
 -- outcomes with equal parts
-outcome-same : (b b′ : List ℕ) (s s′ : State) (h h′ : List Tested) (c c′ : Counts) (e : Feed) → b ≡ b′ → s ≡ s′ → h ≡ h′ → c ≡ c′
-    → _≡_ {A = Outcome} (record { bytes = b; state = s; held = h; counts = c; end = e })
-    (record { bytes = b′; state = s′; held = h′; counts = c′; end = e })
-outcome-same b b′ s s′ h h′ c c′ e p q r u = rw (p, q, r, u)
+outcome-same : (b b′ : List ℕ) (s s′ : State) (h h′ : List Tested) (c c′ : Counts) (n n′ : Handed) (e : Feed) → b ≡ b′ → s ≡ s′ → h ≡ h′ → c ≡ c′ → n ≡ n′
+    → _≡_ {A = Outcome} (record { bytes = b; state = s; held = h; counts = c; handed = n; end = e })
+    (record { bytes = b′; state = s′; held = h′; counts = c′; handed = n′; end = e })
+outcome-same b b′ s s′ h h′ c c′ n n′ e p q r u v = rw (p, q, r, u, v)
 
 module _ (line room : List ℕ) (p : Progress) (u : Under line room p) (t : Taken)
     (k : Takes (lineBits line) (p .pos) (p .receiver .skip) (p .receiver .carried) t) (full : t .full ≡ true) (link : Link) (h : Held)
@@ -189,33 +193,36 @@ module _ (line room : List ℕ) (p : Progress) (u : Under line room p) (t : Take
       omega (arith, ap length bytes-are, length-append (take (p .at) room) (bytes ++ later), length-append bytes later, length-take-le (p .at) room (u .at), u .fits)
 
   module _ (s : State) (at : ℕ) (c : Counts) (room′ : List ℕ) (es : s ≡ after-held) (ea : at ≡ p .at + length bytes)
-      (er : room′ ≡ take (p .at) room ++ (bytes ++ drop (p .at + length bytes) room)) (ec : c ≡ counted (p .counts) (testedIn h)) where
+      (er : room′ ≡ take (p .at) room ++ (bytes ++ drop (p .at + length bytes) room)) (n : Handed)
+      (en : n ≡ heldHanded (p .receiver .have) (p .handed) (p .receiver .state) (p .receiver .held) (letsEnd (testedIn h))) (ec : c ≡ counted (p .counts) (testedIn h)) where
     -- what is written now
     taken-is : take at room′ ≡ take (p .at) room ++ bytes
     taken-is = ap₂ take ea er ∙ put-take room bytes (p .at) held-fits
 
     -- nothing changes in what comes of it
-    moved-same : outcome line room′ (moved p t link h s at c) ≡ outcome line room p
+    moved-same : outcome line room′ (moved p t link h s at c n) ≡ outcome line room p
     unfolding outcome heldIn feedIn feedOf left
     moved-same =
         let r = p .receiver in
         let ts = left .tested in
         let later = bytesOf (settle after-held (testedIn h ∷ ts) .judged) in
-        outcome-same _ _ _ _ _ _ _ _ (left .end)
+        outcome-same _ _ _ _ _ _ _ _ _ _ (left .end)
         (ap₂ (λ (x : List ℕ) (z : State). x ++ bytesOf (settle z (testedIn h ∷ ts) .judged)) taken-is es
         ∙ append-assoc (take (p .at) room) bytes later
         ∙ ap (λ (l : List ℕ). take (p .at) room ++ l) (sym (settle-bytes (r .state) (r .held) (testedIn h) ts (r .have))))
         (ap (λ (z : State). settle z (testedIn h ∷ ts) .state) es ∙ sym (settle-state (r .state) (r .held) (testedIn h) ts (r .have)))
         (ap (λ (z : State). settle z (testedIn h ∷ ts) .held) es ∙ sym (settle-held (r .state) (r .held) (testedIn h) ts (r .have)))
         (ap (λ (z : Counts). plus z (countsOf ts)) ec ∙ count-more (p .counts) (testedIn h) ts)
-        ∙ sym (ap (outcomeOf (take (p .at) room) (r .state) (heldIn r) (p .counts)) block-run)
+        (ap₂ (λ (z : Handed) (x : State). plusHanded z (handedOf (settle x (testedIn h ∷ ts) .judged))) en es
+        ∙ settle-handed (r .state) (r .held) (testedIn h) ts (p .handed) (r .have))
+        ∙ sym (ap (outcomeOf (take (p .at) room) (r .state) (heldIn r) (p .counts) (p .handed)) block-run)
 
     -- the room is as long as it was
     len-is : length room′ ≡ length room
     len-is = ap length er ∙ put-length room bytes (p .at) held-fits
 
     -- so that is a turn
-    pub turn-block : Turns line room room′ p (moved p t link h s at c)
+    pub turn-block : Turns line room room′ p (moved p t link h s at c n)
     turn-block =
         record {
           under =
@@ -226,6 +233,7 @@ module _ (line room : List ℕ) (p : Progress) (u : Under line room p) (t : Take
                 at = omega (arith, ea, held-fits, len-is);
                 fits = omega (arith, len-is, ap (λ (o : Outcome). length (o .bytes)) moved-same, u .fits);
                 counts = subst (Within (t .next)) (sym ec) (within-next (p .counts) (testedIn h) (p .pos) (t .next) (u .counts) (k .past));
+                handed = subst (HandedWithin (t .next)) (sym en) (held-within (p .receiver .have) (p .handed) (p .receiver .state) (p .receiver .held) (letsEnd (testedIn h)) (p .pos) (t .next) (u .handed) (k .past));
               };
           same = moved-same;
           past = k .past;
@@ -245,7 +253,7 @@ pub record Looping (line room₀ room : List ℕ) (p₀ p : Progress) : Type 0 w
 
 -- a receiver at the first bit of the line
 abbrev pub begun : Receiver → Progress
-begun r = record { receiver = r; pos = 0; at = 0; counts = noCounts }
+begun r = record { receiver = r; pos = 0; at = 0; counts = noCounts; handed = noneHanded }
 
 -- it holds at the first turn
 pub loop-first : (line room : List ℕ) (r : Receiver) → InRange (r .link) → Sound (r .carried) → length (written r line) ≤ length room
@@ -254,7 +262,7 @@ unfolding outcome
 loop-first line room r g s f =
     record {
       under =
-          record { range = g; sound = s; pos = omega arith; at = omega arith; fits = f; counts = within-none 0 };
+          record { range = g; sound = s; pos = omega arith; at = omega arith; fits = f; counts = within-none 0; handed = handed-none 0 };
       same = refl;
       rest = refl;
       len = refl;
@@ -277,10 +285,10 @@ loop-next line room₀ room room′ p₀ p p′ i t =
 -- no bit is left
 ended : (line room : List ℕ) (p : Progress) → 8 * length line ≤ p .pos
     → outcome line room p
-    ≡ record { bytes = take (p .at) room ++ []; state = p .receiver .state; held = heldIn (p .receiver); counts = p .counts; end = feedIn (p .receiver) }
+    ≡ record { bytes = take (p .at) room ++ []; state = p .receiver .state; held = heldIn (p .receiver); counts = p .counts; handed = p .handed; end = feedIn (p .receiver) }
 unfolding outcome heldIn run flatten
 ended line room p over =
-    rw (drop-of-length-le (lineBits line) {i = p .pos} (omega (arith, length-lineBits line)), settle-last (p .receiver .have) (p .receiver .state) (p .receiver .held), count-end (p .counts))
+    rw (drop-of-length-le (lineBits line) {i = p .pos} (omega (arith, length-lineBits line)), settle-last (p .receiver .have) (p .receiver .state) (p .receiver .held), count-end (p .counts), hand-end (p .handed))
 
 -- so at the end everything is settled
 pub loop-ends : (line room₀ room : List ℕ) (r : Receiver) (p : Progress) → Looping line room₀ room (begun r) p → 8 * length line ≤ p .pos
@@ -297,4 +305,6 @@ loop-ends line room₀ room r p i over =
       rest = i .rest;
       len = i .len;
       counts = ap (λ (o : Outcome). o .counts) e ∙ count-first (countsOf (run (feedIn r) (lineBits line) .tested));
+      handed = ap (λ (o : Outcome). o .handed) e ∙ hand-first (handedOf (settle (r .state) (heldIn r ++ run (feedIn r) (lineBits line) .tested) .judged));
+      few = handed-wide (p .handed) (p .pos) (8 * length line) (i .under .handed) (i .under .pos);
     }

@@ -5,8 +5,7 @@ use lib.ListN.{length, drop}
 use lib.Dec.{ltb}
 use Rattle.refusals.specs.Number.{numberOf}
 use Rattle.refusals.specs.First.{Check, check, first, byVerdict}
-use Rattle.receiving.specs.Receive.{judge, judgedAlone, runOf, countsOf, vectorsOf, receivedVectors}
-use Rattle.diagrams.specs.declared.State.the-variants.{Init}
+use Rattle.receiving.specs.Receive.{judgedAlone, runOf, judgedOf, countsOf, handedOf, vectorsOf, receivedVectors}
 use Rattle.receiving.specs.declared.Summary.{Summary}
 use Rattle.receiving.specs.declared.Received.{Received}
 use Rattle.receiving.specs.declared.Received.the-variants.{Done, Refused}
@@ -15,8 +14,8 @@ use Rattle.receiving.specs.declared.Received.the-variants.{Done, Refused
 unfoldable pub receiveChecks : (line room : ℕ) → List Check
 receiveChecks line room = check 1 (ltb 825000 line) ∷ check 4 (ltb room (10 * (8 * line / 66))) ∷ []
 
--- "Receiving returns tested, slips, locked, high and the number of vectors", and by document 02 the reasons (1/13) and the flag of the last
--- vector (6/13): the summary of a line that is not refused
+-- "Receiving returns tested, slips, locked, high and the number of vectors", and by document 02 the reasons (1/13), the flag of the last vector
+-- (6/13), begun and replaced (3/13): the summary of a line that is not refused
 unfoldable pub summaryOf : List ℕ → Summary
 summaryOf line =
     record {
@@ -24,7 +23,8 @@ summaryOf line =
       locked = runOf line .end .link .lock .locked;
       high = runOf line .end .link .rate .high;
       vectors = length (vectorsOf line);
-      alone = judgedAlone (judge Init (runOf line .tested));
+      alone = judgedAlone (judgedOf line);
+      handed = handedOf (judgedOf line);
     }
 
 -- a summary; or a refusal's number and place

@@ -4,8 +4,9 @@ use mathlib.Core.Bool.{cond}
 use Rattle.block.specs.declared.Class.{Class}
 use Rattle.block.specs.declared.Reason.the-variants.{Header, BlockType, ControlCode, SetCode}
 use Rattle.receiving.specs.Machine.{Tested}
-use Rattle.receiving.specs.Receive.{badFor}
+use Rattle.receiving.specs.Receive.{badFor, Judged, begins, replaces}
 use Rattle.receiving.specs.declared.Counts.{Counts}
+use Rattle.receiving.specs.declared.Handed.{Handed}
 
 -- nothing counted yet
 abbrev pub noCounts : Counts
@@ -57,3 +58,19 @@ pub record Within (n : ℕ) (c : Counts) : Type 0 where
   pub types : c .types ≤ n
   pub codes : c .codes ≤ n
   pub sets : c .sets ≤ n
+
+-- ---- the same of the vectors handed out
+
+abbrev pub noneHanded : Handed
+noneHanded = record { begun = 0; replaced = 0 }
+
+abbrev pub plusHanded : Handed → Handed → Handed
+plusHanded a b = record { begun = a .begun + b .begun; replaced = a .replaced + b .replaced }
+
+-- one more vector
+unfoldable pub handOut : Handed → Judged → Handed
+handOut h j = record { begun = h .begun + cond (begins j) 1 0; replaced = h .replaced + cond (replaces j) 1 0 }
+
+pub record HandedWithin (n : ℕ) (h : Handed) : Type 0 where
+  pub begun : h .begun ≤ n
+  pub replaced : h .replaced ≤ n

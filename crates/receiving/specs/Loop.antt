@@ -10,12 +10,13 @@ use Rattle.decoding.specs.Vector.{vectorBytes}
 use Rattle.diagrams.specs.declared.State.{State}
 use Rattle.diagrams.specs.declared.State.the-variants.{Init}
 use Rattle.receiving.specs.Machine.{Feed, Run, Tested, run, at, linkFresh}
-use Rattle.receiving.specs.Receive.{letsEnd, stateOf, answerIn, Judged, answer, countsOf}
-use Rattle.receiving.specs.Counted.{plus, Within}
+use Rattle.receiving.specs.Receive.{letsEnd, stateOf, answerIn, Judged, answer, countsOf, handedOf}
+use Rattle.receiving.specs.Counted.{plus, Within, plusHanded, handOut, HandedWithin}
 use Rattle.receiving.specs.Ranges.{InRange}
 use Rattle.receiving.specs.declared.Held.{Held}
 use Rattle.receiving.specs.declared.Receiver.{Receiver}
 use Rattle.receiving.specs.declared.Counts.{Counts}
+use Rattle.receiving.specs.declared.Handed.{Handed}
 use Rattle.receiving.specs.declared.Progress.{Progress}
 
 -- ---- what the code holds, as the definitions have it
@@ -63,29 +64,31 @@ bytesOf js = flatten (map answer js)
 
 -- ---- what a receiver comes to at the end of the line, from where it is
 
--- the bytes in the room, the state, the block held, the counts, and where the receiver then stands
+-- the bytes in the room, the state, the block held, the counts of blocks and vectors, and where the receiver then stands
 pub record Outcome : Type 0 where
   pub bytes : List ℕ
   pub state : State
   pub held : List Tested
   pub counts : Counts
+  pub handed : Handed
   pub end : Feed
 
 -- from what is still to be run over
-abbrev pub outcomeOf : List ℕ → State → List Tested → Counts → Run → Outcome
-outcomeOf written s held c r =
+abbrev pub outcomeOf : List ℕ → State → List Tested → Counts → Handed → Run → Outcome
+outcomeOf written s held c h r =
     record {
       bytes = written ++ bytesOf (settle s (held ++ r .tested) .judged);
       state = settle s (held ++ r .tested) .state;
       held = settle s (held ++ r .tested) .held;
       counts = plus c (countsOf (r .tested));
+      handed = plusHanded h (handedOf (settle s (held ++ r .tested) .judged));
       end = r .end;
     }
 
 -- from the progress of a receiver
 unfoldable pub outcome : (line room : List ℕ) → Progress → Outcome
 outcome line room p =
-    outcomeOf (take (p .at) room) (p .receiver .state) (heldIn (p .receiver)) (p .counts)
+    outcomeOf (take (p .at) room) (p .receiver .state) (heldIn (p .receiver)) (p .counts) (p .handed)
     (run (feedIn (p .receiver)) (drop (p .pos) (lineBits line)))
 
 -- on the way: all numbers are in range, and what is still to be written fits the room
@@ -96,6 +99,7 @@ pub record Under (line room : List ℕ) (p : Progress) : Type 0 where
   pub at : p .at ≤ length room
   pub fits : length (outcome line room p .bytes) ≤ length room
   pub counts : Within (p .pos) (p .counts)
+  pub handed : HandedWithin (p .pos) (p .handed)
 
 -- one turn leaves what comes of it, and what stands in the room behind the bytes written
 pub record Turns (line room room′ : List ℕ) (p p′ : Progress) : Type 0 where
@@ -116,6 +120,8 @@ pub record Ends (line room room′ : List ℕ) (r : Receiver) (p : Progress) : T
   pub rest : drop (p .at) room′ ≡ drop (p .at) room
   pub len : length room′ ≡ length room
   pub counts : p .counts ≡ countsOf (run (feedIn r) (lineBits line) .tested)
+  pub handed : p .handed ≡ handedOf (settle (r .state) (heldIn r ++ run (feedIn r) (lineBits line) .tested) .judged)
+  pub few : HandedWithin (8 * length line) (p .handed)
 
 -- what a receiver writes of a line, the block that it then holds aside
 abbrev pub written : Receiver → List ℕ → List ℕ
@@ -130,3 +136,7 @@ heldState have s h ends = cond have (stateOf s (testedIn h) ends) s
 -- its bytes
 abbrev pub heldBytes : Bool → State → Held → Bool → List ℕ
 heldBytes have s h ends = cond have (answerIn (stateOf s (testedIn h) ends) (vectorBytes (h .vector))) []
+
+-- the counts of vectors with it
+abbrev pub heldHanded : Bool → Handed → State → Held → Bool → Handed
+heldHanded have n s h ends = cond have (handOut n (record { state = stateOf s (testedIn h) ends; block = testedIn h })) n

@@ -5,7 +5,7 @@ use mathlib.Core.List.{List, [], _∷_, map, flatten}
 use lib.ListN.{length}
 use lib.Dec.{eqb}
 use Rattle.bits.specs.Bits.{lineBits}
-use Rattle.block.specs.Block.{errorVector, localFaultVector, kindIn, classNumber}
+use Rattle.block.specs.Block.{errorVector, localFaultVector, isS, kindIn, classNumber}
 use Rattle.block.specs.declared.Reason.{Reason}
 use Rattle.block.specs.declared.Reason.the-variants.{Header, BlockType, ControlCode, SetCode}
 use Rattle.block.specs.declared.Class.{Class}
@@ -15,6 +15,7 @@ use Rattle.diagrams.specs.declared.State.{State}
 use Rattle.diagrams.specs.declared.State.the-variants.{Init, Control, Data, Terminate, Error}
 use Rattle.receiving.specs.Machine.{Tested, Run, run, at, linkFresh}
 use Rattle.receiving.specs.declared.Counts.{Counts}
+use Rattle.receiving.specs.declared.Handed.{Handed}
 
 -- Whether the next block is S or C: it "counts as E if testing it leaves the receiver not locked or high". Document 02, 6/13: "A missing next
 -- block now counts as C", where document 01 had it as E.
@@ -97,10 +98,40 @@ countsOf ts =
       sets = howMany (λ t. badFor SetCode (t .class)) ts;
     }
 
+-- the states that answer the decoded block, and the state that answers the error vector
+abbrev pub decodes : State → Bool
+decodes Init = false
+decodes Control = true
+decodes Data = true
+decodes Terminate = true
+decodes Error = false
+
+abbrev pub errs : State → Bool
+errs Init = false
+errs Control = false
+errs Data = false
+errs Terminate = false
+errs Error = true
+
+-- Document 02, 3/13: "begun means a block of kind S answered as decoded, replaced means answered as the error vector"
+abbrev pub begins : Judged → Bool
+begins j = isS (kindIn (j .block .class)) && decodes (j .state)
+
+abbrev pub replaces : Judged → Bool
+replaces j = errs (j .state)
+
+-- of the vectors handed out: frames begun and vectors replaced
+unfoldable pub handedOf : List Judged → Handed
+handedOf js = record { begun = howMany begins js; replaced = howMany replaces js }
+
 -- ---- a fresh receiver over a whole line
 
 unfoldable pub runOf : List ℕ → Run
 runOf line = run (at linkFresh) (lineBits line)
+
+-- its blocks in their states
+abbrev pub judgedOf : List ℕ → List Judged
+judgedOf line = judge Init (runOf line .tested)
 
 -- its vectors, and their bytes
 unfoldable pub vectorsOf : List ℕ → List (List ℕ)

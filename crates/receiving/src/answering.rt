@@ -1,5 +1,7 @@
 // The vector of a tested block, once the next block is known.
+use crate::Handed;
 use crate::Held;
+use crate::counting;
 use decoding::Vector;
 use diagrams::State;
 ghost use mathlib.Core.Path.{_≡_};
@@ -9,7 +11,8 @@ ghost use Prim.Native.Nat.{_+_, _≤_};
 ghost use lib.ListN.{length, take, drop};
 ghost use Rattle.decoding.specs.Vector.{vectorBytes};
 ghost use Rattle.receiving.specs.Receive.{letsEnd, stateOf, answerIn, isTerminate};
-ghost use Rattle.receiving.specs.Loop.{testedIn, heldState, heldBytes};
+ghost use Rattle.receiving.specs.Loop.{testedIn, heldState, heldBytes, heldHanded};
+ghost use Rattle.receiving.specs.Counted.{HandedWithin};
 
 // Whether the block before may end its frame: this one was tested in lock and not high, and is S or C.
 pub fn lets_end(next: Held) -> bool
@@ -78,31 +81,39 @@ pub fn judged_alone(have: bool, s: State) -> bool
     if have { is_terminate(s) } else { false }
 }
 
-// The diagram's state, and where the room goes on.
+// The diagram's state, where the room goes on, and what the vectors handed out are counted for.
 pub struct Answered {
     pub state: State,
     pub at: usize,
+    pub handed: Handed,
 }
 
 // The block held, if there is one, takes the diagram's step and gives its vector.
 pub fn settle_held(
     room: &mut [u8],
     at: usize,
+    handed: Handed,
     have: bool,
     s: State,
     h: Held,
     ends: bool,
 ) -> Answered
-    requires { ⌜ at + length (heldBytes have s h ends) ≤ length (now room) ⌝ }
-    ensures { λ r. ⌜ (r .state ≡ heldState have s h ends) × (r .at ≡ at + length (heldBytes have s h ends)) × (now (room .exit) ≡ take at (now (room .entry)) ++ (heldBytes have s h ends ++ drop (at + length (heldBytes have s h ends)) (now (room .entry)))) ⌝ }
+    requires { ⌜ (at + length (heldBytes have s h ends) ≤ length (now room)) × HandedWithin 6600000 handed ⌝ }
+    ensures { λ r. ⌜ (r .state ≡ heldState have s h ends) × (r .at ≡ at + length (heldBytes have s h ends)) × (now (room .exit) ≡ take at (now (room .entry)) ++ (heldBytes have s h ends ++ drop (at + length (heldBytes have s h ends)) (now (room .entry)))) × (r .handed ≡ heldHanded have handed s h ends) ⌝ }
 {
     if have {
         let state = state_step(s, h, ends);
         vectors::put_vector(room, at, answer_in(state, h.vector));
+        let more = counting::hand_out(handed, state, h);
         return Answered {
             state: state,
             at: at + 10,
+            handed: more,
         };
     }
-    Answered { state: s, at: at }
+    Answered {
+        state: s,
+        at: at,
+        handed: handed,
+    }
 }

@@ -43,14 +43,22 @@ pub struct Counts {
     pub sets: u64,
 }
 
-// What receiving returns: the counts, lock and error rate at the end, the number of vectors, and whether the last of them was judged
-// without its successor.
+// What vectors handed out are counted for: those of kind S that were answered as decoded, which begin frames, and those answered as the
+// error vector.
+pub struct Handed {
+    pub begun: u64,
+    pub replaced: u64,
+}
+
+// What receiving returns: the counts of blocks, lock and error rate at the end, the number of vectors, whether the last of them was judged
+// without its successor, and the counts of vectors.
 pub struct Summary {
     pub counts: Counts,
     pub locked: bool,
     pub high: bool,
     pub vectors: u64,
     pub alone: bool,
+    pub handed: Handed,
 }
 
 pub enum Received {
@@ -83,6 +91,7 @@ pub struct Progress {
     pub pos: usize,
     pub at: usize,
     pub counts: Counts,
+    pub handed: Handed,
 }
 
 // One turn: a whole block of the line, or one bit. A block that is full is tested, and the one held before it is answered.
@@ -94,6 +103,7 @@ fn turn(t: &[u16; 3170], y: &[u8; 256], line: &[u8], room: &mut [u8], p: Progres
     let pos = p.pos;
     let at = p.at;
     let counts = p.counts;
+    let handed = p.handed;
     let taken = take_at(line, pos, r.skip, r.carried);
     let carried = taken.carried;
     let link = r.link;
@@ -104,8 +114,9 @@ fn turn(t: &[u16; 3170], y: &[u8; 256], line: &[u8], room: &mut [u8], p: Progres
         let link = block.link;
         let next = block.held;
         let ends = answering::lets_end(next);
-        let settled = answering::settle_held(room, at, r.have, state, held, ends);
+        let settled = answering::settle_held(room, at, handed, r.have, state, held, ends);
         let state = settled.state;
+        let handed = settled.handed;
         let slipped = next.slipped;
         let counts = counting::count_block(counts, next);
         return Progress {
@@ -120,6 +131,7 @@ fn turn(t: &[u16; 3170], y: &[u8; 256], line: &[u8], room: &mut [u8], p: Progres
             pos: taken.next,
             at: settled.at,
             counts: counts,
+            handed: handed,
         };
     }
     Progress {
@@ -134,6 +146,7 @@ fn turn(t: &[u16; 3170], y: &[u8; 256], line: &[u8], room: &mut [u8], p: Progres
         pos: taken.next,
         at: at,
         counts: counts,
+        handed: handed,
     }
 }
 
@@ -161,6 +174,10 @@ fn receive_bits(
             types: 0,
             codes: 0,
             sets: 0,
+        },
+        handed: Handed {
+            begun: 0,
+            replaced: 0,
         },
     };
     while p.pos < bits {
@@ -225,8 +242,9 @@ fn receive_with(t: &[u16; 3170], y: &[u8; 256], line: &[u8], room: &mut [u8]) ->
     let state = r.state;
     let held = r.held;
     let have = r.have;
-    let last = answering::settle_held(room, at, have, state, held, true);
+    let last = answering::settle_held(room, at, p.handed, have, state, held, true);
     let state = last.state;
+    let handed = last.handed;
     let alone = answering::judged_alone(have, state);
     let counts = p.counts;
     Received::Done(Summary {
@@ -235,6 +253,7 @@ fn receive_with(t: &[u16; 3170], y: &[u8; 256], line: &[u8], room: &mut [u8]) ->
         high: rate.high,
         vectors: counts.tested,
         alone: alone,
+        handed: handed,
     })
 }
 

@@ -1,72 +1,68 @@
--- `holzmotte::holzmotte_receive` meets its contract: a summary too short, an answer, a refusal. Assumes nothing.
+-- `holzmotte::holzmotte_receive` meets its contract: a slice too short, an answer, a refusal. Assumes nothing.
 use mathlib.Core.Path.{sym, ap, _∙_}
-use lib.ListN.{length, drop}
+use lib.ListN.{length}
 use denote.Ref.{now}
 use Rattle.receiving.specs.Answer.{answerOf}
-use Rattle.holzmotte.proofs.Receives.{small, shortly, answered, flagged}
+use Rattle.holzmotte.proofs.Receives.{small, shortly, long-summary, long-counters, refused-so, received-so}
 use borrow.Author.Needs.{needs}
 use Rattle.holzmotte.proofs.holzmotte_receive.Statement.{statement}
 use Rattle.holzmotte.proofs.holzmotte_receive.Tie as tie
 
+short-slice-requires : tie.Need-short-slice-requires
+short-slice-requires c κs = search needs
+
+clear-requires : tie.Need-clear-requires
+clear-requires c κs = search needs
+
 receive-short-requires : tie.Need-receive-short-requires
 receive-short-requires c κs = search needs
-
-returns : tie.Need-returns
-returns c =
-    let a = c .before .before .before .before .before .args in
-    let s = now (a .summary) in
-    let t = shortly (now (a .line)) (now (a .vectors)) s (c .receive-short .result) (c .before .if1 .taken) (c .receive-short .ensures (length (now (a .vectors))) (length s) (c .before .if1 .taken)) in
-    (t .0, (t .1, t .2))
-
-receive-requires : tie.Need-receive-requires
-receive-requires c κs = search needs
-
-enum-known-s : tie.Need-enum-known-s
-enum-known-s c = search needs
-
-flag-requires : tie.Need-flag-requires
-flag-requires c κs = search needs
-
-flag-requires-2 : tie.Need-flag-requires-2
-flag-requires-2 c κs = search needs
-
-flag-requires-3 : tie.Need-flag-requires-3
-flag-requires-3 c κs = search needs
-
-slice-aggregate-put-words : tie.Need-slice-aggregate-put-words
-slice-aggregate-put-words c = search needs
-
-put-words-requires : tie.Need-put-words-requires
-put-words-requires c κs = search needs
-
-enum-known-why : tie.Need-enum-known-why
-enum-known-why c = search needs
-
-slice-aggregate-put-words-2 : tie.Need-slice-aggregate-put-words-2
-slice-aggregate-put-words-2 c = search needs
-
-put-words-requires-2 : tie.Need-put-words-requires-2
-put-words-requires-2 c κs = search needs
-
-refusal-requires : tie.Need-refusal-requires
-refusal-requires c κs =
-    let a = c .before .before .before .before .before .before .before .before .before .before .before .before .before .before .before .before .args in
-    small (now (a .line)) (length (now (a .vectors))) _ _ (sym (ap answerOf (c .before .before .before .before .before .before .why .given .1)) ∙ c .before .before .before .before .before .before .before .before .before .before .receive .ensures .0)
 
 same-length : tie.Need-same-length
 same-length c = search needs
 
+returns : tie.Need-returns
+returns c =
+    let a = c .before .before .before .before .before .before .before .before .before .before .before .args in
+    let l = sym (c .before .before .before .before .before .before .short-slice .ensures) ∙ c .before .before .before .before .before .if1 .taken in
+    let t =
+    shortly (now (a .line)) (now (a .vectors)) (now (a .summary)) (now (a .counters)) (c .receive-short .result) l
+    (c .receive-short .ensures (length (now (a .vectors))) (length (now (a .summary))) (length (now (a .counters))) l) in
+    (t .0, (t .1, (c .before .before .before .clear .ensures ∙ t .2, t .3)))
+
+load-counters-requires : tie.Need-load-counters-requires
+load-counters-requires c κs =
+    let a = c .before .before .before .before .before .before .before .before .args in
+    long-counters (now (a .line)) (now (a .vectors)) (now (a .summary)) (now (a .counters)) (sym (c .before .before .before .short-slice .ensures) ∙ c .before .before .if1 .left)
+
+receive-by-value-requires : tie.Need-receive-by-value-requires
+receive-by-value-requires c κs = search needs
+
+enum-known-answer : tie.Need-enum-known-answer
+enum-known-answer c = search needs
+
+put-summary-requires : tie.Need-put-summary-requires
+put-summary-requires c κs =
+    let a = c .before .before .before .before .before .before .before .before .before .before .before .before .before .before .before .before .before .args in
+    long-summary (now (a .line)) (now (a .vectors)) (now (a .summary)) (now (a .counters)) (sym (c .before .before .before .before .before .before .before .before .before .before .before .before .short-slice .ensures) ∙ c .before .before .before .before .before .before .before .before .before .before .before .if1 .left)
+
+store-counters-requires : tie.Need-store-counters-requires
+store-counters-requires c κs =
+    let a = c .before .before .before .before .before .before .before .before .before .before .before .before .before .before .before .before .before .before .before .before .before .args in
+    long-counters (now (a .line)) (now (a .vectors)) (now (a .summary)) (now (a .counters)) (sym (c .before .before .before .before .before .before .before .before .before .before .before .before .before .before .before .before .short-slice .ensures) ∙ c .before .before .before .before .before .before .before .before .before .before .before .before .before .before .before .if1 .left)
+
+enum-known-answer-2 : tie.Need-enum-known-answer-2
+enum-known-answer-2 c = search needs
+
+clear-requires-2 : tie.Need-clear-requires-2
+clear-requires-2 c κs = search needs
+
+refusal-requires : tie.Need-refusal-requires
+refusal-requires c κs =
+    let a = c .before .before .before .before .before .before .before .before .before .before .before .before .before .before .before .before .before .before .before .before .args in
+    small (now (a .line)) (length (now (a .vectors))) _ _ (sym (ap answerOf (c .before .before .before .before .before .answer2 .given .1)) ∙ c .before .before .before .before .before .before .before .before .before .before .receive-by-value .ensures .0)
+
 same-length-2 : tie.Need-same-length-2
 same-length-2 c = search needs
-
-returns-2 : tie.Need-returns-2
-returns-2 c =
-    let a = c .before .before .before .before .before .before .before .before .before .before .before .before .before .before .before .before .before .before .before .before .args in
-    let s = c .before .before .before .before .before .before .before .before .before .before .s .given .0 .0 in
-    let t =
-    answered (now (a .line)) (now (a .vectors)) (now (a .summary)) _ _ _ (c .before .before .before .before .before .before .before .before .before .before .before .before .before .before .before .before .if1 .left) (sym (ap answerOf (c .before .before .before .before .before .before .before .before .before .before .s .given .1)) ∙ c .before .before .before .before .before .before .before .before .before .before .before .before .before .before .receive .ensures .0) (c .before .before .before .before .before .before .before .before .before .before .before .before .before .before .receive .ensures .1)
-    (flagged s (c .before .before .before .before .before .before .flag .result) (c .before .before .before .before .before .flag2 .result) (c .before .before .before .before .flag3 .result) (drop 80 (now (a .summary))) _ (c .before .before .before .before .before .before .flag .ensures) (c .before .before .before .before .before .flag2 .ensures) (c .before .before .before .before .flag3 .ensures) (c .before .before .put-words .ensures)) in
-    (t .0, (t .1, t .2))
 
 same-length-3 : tie.Need-same-length-3
 same-length-3 c = search needs
@@ -74,32 +70,54 @@ same-length-3 c = search needs
 same-length-4 : tie.Need-same-length-4
 same-length-4 c = search needs
 
+returns-2 : tie.Need-returns-2
+returns-2 c =
+    let a = c .before .before .before .before .before .before .before .before .before .before .before .before .before .before .before .before .before .before .before .before .before .before .before .before .args in
+    let t =
+    received-so (now (a .line)) (now (a .vectors)) (now (a .summary)) (now (a .counters)) (sym (c .before .before .before .before .before .before .before .before .before .before .before .before .before .before .before .before .before .before .before .short-slice .ensures) ∙ c .before .before .before .before .before .before .before .before .before .before .before .before .before .before .before .before .before .before .if1 .left) (c .before .before .before .before .before .before .before .before .before .answer .given .0 .0) (c .before .before .before .before .before .before .before .before .before .before .before .before .before .before .before .load-counters .result) (c .before .before .before .before .before .before .before .before .before .before .before .before .before .before .receive-by-value .result .counters) _ _ _
+    (sym (ap answerOf (c .before .before .before .before .before .before .before .before .before .answer .given .1)) ∙ c .before .before .before .before .before .before .before .before .before .before .before .before .before .before .receive-by-value .ensures .0) (c .before .before .before .before .before .before .before .before .before .before .before .before .before .before .receive-by-value .ensures .1 .0) (c .before .before .before .before .before .before .put-summary .ensures)
+    (c .before .before .before .before .before .before .before .before .before .before .before .before .before .before .before .load-counters .ensures) (c .before .before .before .before .before .before .before .before .before .before .before .before .before .before .receive-by-value .ensures .1 .1) (c .before .before .store-counters .ensures) in
+    (t .0, (t .1, (t .2, t .3)))
+
+same-length-5 : tie.Need-same-length-5
+same-length-5 c = search needs
+
+same-length-6 : tie.Need-same-length-6
+same-length-6 c = search needs
+
+same-length-7 : tie.Need-same-length-7
+same-length-7 c = search needs
+
 returns-3 : tie.Need-returns-3
 returns-3 c =
-    let a = c .before .before .before .before .before .before .before .before .before .before .before .before .before .before .before .before .before .args in
-    let t = answered (now (a .line)) (now (a .vectors)) (now (a .summary)) _ _ _ (c .before .before .before .before .before .before .before .before .before .before .before .before .before .if1 .left) (sym (ap answerOf (c .before .before .before .before .before .before .before .why .given .1)) ∙ c .before .before .before .before .before .before .before .before .before .before .before .receive .ensures .0) (c .before .before .before .before .before .before .before .before .before .before .before .receive .ensures .1) (c .before .before .before .put-words2 .ensures) in
-    (c .refusal .ensures ∙ t .0, (t .1, t .2))
+    let a = c .before .before .before .before .before .before .before .before .before .before .before .before .before .before .before .before .before .before .before .before .before .args in
+    let t =
+    refused-so (now (a .line)) (now (a .vectors)) (now (a .summary)) (now (a .counters)) (sym (c .before .before .before .before .before .before .before .before .before .before .before .before .before .before .before .before .short-slice .ensures) ∙ c .before .before .before .before .before .before .before .before .before .before .before .before .before .before .before .if1 .left) _ _ _
+    (sym (ap answerOf (c .before .before .before .before .before .before .answer2 .given .1)) ∙ c .before .before .before .before .before .before .before .before .before .before .before .receive-by-value .ensures .0) (c .before .before .before .before .before .before .before .before .before .before .before .receive-by-value .ensures .1 .0) in
+    (c .refusal .ensures ∙ t .0, (t .1, (c .before .before .before .clear2 .ensures ∙ t .2, t .3)))
 
 pub holzmotte-receive-spec : {M : Type 1} → statement M
 holzmotte-receive-spec =
     tie.close
     (tie.spec
+    short-slice-requires
+    clear-requires
     receive-short-requires
-    returns
-    receive-requires
-    enum-known-s
-    flag-requires
-    flag-requires-2
-    flag-requires-3
-    slice-aggregate-put-words
-    put-words-requires
-    enum-known-why
-    slice-aggregate-put-words-2
-    put-words-requires-2
-    refusal-requires
     same-length
+    returns
+    load-counters-requires
+    receive-by-value-requires
+    enum-known-answer
+    put-summary-requires
+    store-counters-requires
+    enum-known-answer-2
+    clear-requires-2
+    refusal-requires
     same-length-2
-    returns-2
     same-length-3
     same-length-4
+    returns-2
+    same-length-5
+    same-length-6
+    same-length-7
     returns-3)

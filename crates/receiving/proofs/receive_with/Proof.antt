@@ -4,6 +4,8 @@ use borrow.Author.Needs.{needs}
 use denote.Ref.{now}
 use lib.ListN.{length}
 use Rattle.receiving.specs.Answer.{received}
+use native.Mathlib.Omega.{arith}
+use Rattle.receiving.proofs.Counted.{handed-wide}
 use Rattle.receiving.proofs.Closing.{written-fits, last-fits, room-is, summary-is}
 use Rattle.receiving.proofs.Verdict.{too-much, no-room, passes}
 use Rattle.receiving.proofs.receive_with.Statement.{statement}
@@ -33,28 +35,31 @@ receive-bits-requires c κs =
 settle-held-requires : tie.Need-settle-held-requires
 settle-held-requires c κs =
     let args = c .before .before .before .before .before .before .before .before .before .before .before .before .before .before .before .args in
+    let if1 = c .before .before .before .before .before .before .before .before .before .before .before .before .if1 in
     let if2 = c .before .before .before .before .before .before .before .before .before .before .before .if2 in
     let fresh = c .before .before .before .before .before .before .before .before .before .fresh in
-    let receive-bits = c .before .before .before .before .before .before .before .before .receive-bits in
-    last-fits (now (args .line)) (now (args .room)) (fresh .result) (fresh .ensures) (if2 .left)
-    (receive-bits .last .1 .1 .1 .0) (receive-bits .result) (receive-bits .ensures) _
+    let receive-bits = c .before .before .before .before .before .before .before .before .receive-bits in (
+      last-fits (now (args .line)) (now (args .room)) (fresh .result) (fresh .ensures) (if2 .left)
+          (receive-bits .last .1 .1 .1 .0) (receive-bits .result) (receive-bits .ensures) _,
+      handed-wide (receive-bits .result .handed) _ 6600000 (receive-bits .ensures .few) (omega (arith, if1 .left)),
+    )
 
 judged-alone-requires : tie.Need-judged-alone-requires
 judged-alone-requires c κs = search needs
 
 same-length : tie.Need-same-length
-same-length c = c .before .before .before .before .settle-held .kept .0 ∙ c .before .before .before .before .before .before .before .before .before .before .before .before .before .receive-bits .ensures .len
+same-length c = c .before .before .before .before .before .settle-held .kept .0 ∙ c .before .before .before .before .before .before .before .before .before .before .before .before .before .before .receive-bits .ensures .len
 
 returns-3 : tie.Need-returns-3
 returns-3 c =
-    let args = c .before .before .before .before .before .before .before .before .before .before .before .before .before .before .before .before .before .before .before .before .args in
-    let if1 = c .before .before .before .before .before .before .before .before .before .before .before .before .before .before .before .before .before .if1 in
-    let if2 = c .before .before .before .before .before .before .before .before .before .before .before .before .before .before .before .before .if2 in
-    let fresh = c .before .before .before .before .before .before .before .before .before .before .before .before .before .before .fresh in
-    let receive-bits = c .before .before .before .before .before .before .before .before .before .before .before .before .before .receive-bits in
-    let settle-held = c .before .before .before .before .settle-held in
+    let args = c .before .before .before .before .before .before .before .before .before .before .before .before .before .before .before .before .before .before .before .before .before .args in
+    let if1 = c .before .before .before .before .before .before .before .before .before .before .before .before .before .before .before .before .before .before .if1 in
+    let if2 = c .before .before .before .before .before .before .before .before .before .before .before .before .before .before .before .before .before .if2 in
+    let fresh = c .before .before .before .before .before .before .before .before .before .before .before .before .before .before .before .fresh in
+    let receive-bits = c .before .before .before .before .before .before .before .before .before .before .before .before .before .before .receive-bits in
+    let settle-held = c .before .before .before .before .before .settle-held in
     let v = passes (now (args .line)) (now (args .room)) (if1 .left) (if2 .left) in
-    (ap received (summary-is (now (args .line)) (now (args .room)) (fresh .result) (fresh .ensures) (if2 .left) (receive-bits .last .1 .1 .1 .0) (receive-bits .result) (receive-bits .ensures) (settle-held .result .state) (c .before .judged-alone .result) (settle-held .ensures .0) (c .before .judged-alone .ensures)) ∙ v .0, room-is (now (args .line)) (now (args .room)) (fresh .result) (fresh .ensures) (if2 .left) (receive-bits .last .1 .1 .1 .0) (receive-bits .result) (receive-bits .ensures) (settle-held .last .0) (settle-held .ensures .2) ∙ v .1)
+    (ap received (summary-is (now (args .line)) (now (args .room)) (fresh .result) (fresh .ensures) (if2 .left) (receive-bits .last .1 .1 .1 .0) (receive-bits .result) (receive-bits .ensures) (settle-held .result .state) (c .before .judged-alone .result) (settle-held .result .handed) (settle-held .ensures .0) (c .before .judged-alone .ensures) (settle-held .ensures .3)) ∙ v .0, room-is (now (args .line)) (now (args .room)) (fresh .result) (fresh .ensures) (if2 .left) (receive-bits .last .1 .1 .1 .0) (receive-bits .result) (receive-bits .ensures) (settle-held .last .0) (settle-held .ensures .2) ∙ v .1)
 
 pub receive-with-spec : {M : Type 1} → statement M
 receive-with-spec =

@@ -22,29 +22,32 @@ put-vector-requires c κs =
     let pre = c .before .before .before .before .before .pre in
     let a = args in
     omega
-    (arith, held-ten (a .s) (a .h) (a .ends), ap (λ (b : Bool). length (heldBytes b (a .s) (a .h) (a .ends))) (c .before .before .before .if1 .taken), pre)
+    (arith, held-ten (a .s) (a .h) (a .ends), ap (λ (b : Bool). length (heldBytes b (a .s) (a .h) (a .ends))) (c .before .before .before .if1 .taken), pre .0)
 
-add-t13 : tie.Need-add-t13
-add-t13 c = search needs
+hand-out-requires : tie.Need-hand-out-requires
+hand-out-requires c κs = search needs
+
+add-t15 : tie.Need-add-t15
+add-t15 c = search needs
 
 same-length : tie.Need-same-length
 same-length c = search needs
 
 returns : tie.Need-returns
 returns c =
-    let args = c .before .before .before .before .before .before .before .before .args in
-    let if1 = c .before .before .before .before .before .before .if1 in
-    let state-step = c .before .before .before .before .before .state-step in
-    let answer-in = c .before .before .before .answer-in in
-    let put-vector = c .before .before .put-vector in
+    let args = c .before .before .before .before .before .before .before .before .before .args in
+    let if1 = c .before .before .before .before .before .before .before .if1 in
+    let state-step = c .before .before .before .before .before .before .state-step in
+    let answer-in = c .before .before .before .before .answer-in in
+    let put-vector = c .before .before .before .put-vector in
     let a = args in
-    held-put (a .have) (a .s) (a .h) (a .ends) (now (a .room)) (put-vector .last .0) (a .at) (state-step .result)
-    (answer-in .result) (if1 .taken) (state-step .ensures) (answer-in .ensures) (put-vector .ensures)
+    held-put (a .have) (a .s) (a .h) (a .ends) (now (a .room)) (put-vector .last .0) (a .at) (a .handed) (c .hand-out .result) (state-step .result)
+    (answer-in .result) (if1 .taken) (state-step .ensures) (answer-in .ensures) (put-vector .ensures) (c .hand-out .ensures)
 
 returns-2 : tie.Need-returns-2
 returns-2 c =
     let a = c .before .before .args in
-    none-put (a .have) (a .s) (a .h) (a .ends) (now (a .room)) (a .at) (c .if1 .left)
+    none-put (a .have) (a .s) (a .h) (a .ends) (now (a .room)) (a .at) (a .handed) (c .if1 .left)
 
 pub settle-held-spec : {M : Type 1} → statement M
 settle-held-spec =
@@ -53,7 +56,8 @@ settle-held-spec =
     state-step-requires
     answer-in-requires
     put-vector-requires
-    add-t13
+    hand-out-requires
+    add-t15
     same-length
     returns
     returns-2)
