@@ -208,7 +208,7 @@ pub fn diagram_step(s: State, k: Kind, ends: bool) -> State
     }
 }
 
-// Whether a block of kind k may follow a Terminateinate.
+// Whether a block of kind k may follow a Terminate that ends a frame.
 pub fn may_follow(k: Kind) -> bool
     ensures { λ r. ⌜ r ≡ follows k ⌝ }
 {

@@ -1,20 +1,22 @@
 -- The laws of the counts. Assumes nothing.
 use Prim.Native.Nat.{ℕ, suc, zero-le, _+_, _≤_, _<_}
 use mathlib.Core.Path.{_≡_, refl, sym, ap, _∙_}
-use mathlib.Core.Bool.{Bool, true, false, cond, not}
+use mathlib.Core.Bool.{Bool, true, false, cond, not, _&&_}
 use mathlib.Core.List.{List, [], _∷_, _++_}
 use native.Mathlib.Omega.{arith}
 use native.Mathlib.Nat.{add-zero, zero-add, add-assoc}
 use lib.Dec.{T}
 use lib.ListN.{length}
-use Rattle.block.specs.Block.{isError, kindIn}
+use Rattle.block.specs.Block.{isError, isS, kindIn}
 use Rattle.block.specs.declared.Class.{Class}
 use Rattle.block.specs.declared.Class.the-variants as Class
 use Rattle.block.specs.declared.Reason.{Reason}
 use Rattle.block.specs.declared.Reason.the-variants.{Header, BlockType, ControlCode, SetCode}
+use Rattle.diagrams.specs.declared.State.{State}
+use Rattle.diagrams.specs.declared.State.the-variants.{Init, Error}
 use Rattle.receiving.specs.Machine.{Tested}
-use Rattle.receiving.specs.Receive.{howMany, badFor, countsOf, Judged, begins, replaces, handedOf}
-use Rattle.receiving.specs.Counted.{noCounts, plus, reasoned, counted, Within, noneHanded, plusHanded, handOut, HandedWithin}
+use Rattle.receiving.specs.Receive.{howMany, badFor, countsOf, Judged, decodes, errs, begins, replaces, handedOf}
+use Rattle.receiving.specs.Counted.{noCounts, plus, reasoned, counted, Within, noneHanded, plusHanded, handOut, decodedOut, replacedOut, HandedWithin}
 use Rattle.receiving.specs.declared.Counts.{Counts}
 use Rattle.receiving.specs.declared.Handed.{Handed}
 
@@ -149,6 +151,44 @@ hand-more h j js = λ i. record { begun = more begins (h .begun) i; replaced = m
   where
     more : (test : Judged → Bool) (n : ℕ) → n + cond (test j) 1 0 + howMany test js ≡ n + (cond (test j) 1 0 + howMany test js)
     more test n = add-assoc n (cond (test j) 1 0) (howMany test js)
+
+-- what one vector adds, by the class and the state of its block
+module _ (h : Handed) where
+  begun-by : (b c : Bool) → b ≡ c → h .begun + cond b 1 0 ≡ h .begun + cond c 1 0
+  begun-by b c e = ap {B = ℕ} (λ (z : Bool). h .begun + cond z 1 0) e
+
+  pub decoded-start : (k : Class) → isS (kindIn k) ≡ true → record { begun = h .begun + 1; replaced = h .replaced } ≡ decodedOut h k
+  decoded-start k e = λ i. record { begun = begun-by true (isS (kindIn k)) (sym e) i; replaced = h .replaced }
+
+  pub decoded-other : (k : Class) → isS (kindIn k) ≡ false → h ≡ decodedOut h k
+  decoded-other k e = λ i. record { begun = (sym (add-zero (h .begun)) ∙ begun-by false (isS (kindIn k)) (sym e)) i; replaced = h .replaced }
+
+  both : (b c : Bool) → c ≡ true → b ≡ b && c
+  both true c e = sym e
+  both false c e = refl
+
+  neither : (b : Bool) → false ≡ b && false
+  neither true = refl
+  neither false = refl
+
+  none-begun : (t : Tested) → h .begun ≡ h .begun + cond (isS (kindIn (t .class)) && false) 1 0
+  none-begun t = sym (add-zero (h .begun)) ∙ begun-by _ _ (neither (isS (kindIn (t .class))))
+
+  pub out-decoded : (s : State) (t : Tested) → decodes s ≡ true → errs s ≡ false → decodedOut h (t .class) ≡ handOut h (record { state = s; block = t })
+  unfolding handOut
+  out-decoded s t d e =
+      λ i. record {
+        begun = begun-by _ _ (both (isS (kindIn (t .class))) (decodes s) d) i;
+        replaced = (sym (add-zero (h .replaced)) ∙ ap {B = ℕ} (λ (z : Bool). h .replaced + cond z 1 0) (sym e)) i;
+      }
+
+  pub out-init : (t : Tested) → h ≡ handOut h (record { state = Init; block = t })
+  unfolding handOut
+  out-init t = λ i. record { begun = none-begun t i; replaced = sym (add-zero (h .replaced)) i }
+
+  pub out-error : (t : Tested) → replacedOut h ≡ handOut h (record { state = Error; block = t })
+  unfolding handOut
+  out-error t = λ i. record { begun = none-begun t i; replaced = h .replaced + 1 }
 
 -- no vector adds nothing
 pub hand-end : (h : Handed) → plusHanded h (handedOf []) ≡ h

@@ -1,6 +1,7 @@
 -- A reviewer can skip this file. Counts on the way.
 use Prim.Native.Nat.{ℕ, _+_, _≤_}
 use mathlib.Core.Bool.{cond}
+use Rattle.block.specs.Block.{isS, kindIn}
 use Rattle.block.specs.declared.Class.{Class}
 use Rattle.block.specs.declared.Reason.the-variants.{Header, BlockType, ControlCode, SetCode}
 use Rattle.receiving.specs.Machine.{Tested}
@@ -70,6 +71,13 @@ plusHanded a b = record { begun = a .begun + b .begun; replaced = a .replaced + 
 -- one more vector
 unfoldable pub handOut : Handed → Judged → Handed
 handOut h j = record { begun = h .begun + cond (begins j) 1 0; replaced = h .replaced + cond (replaces j) 1 0 }
+
+-- by the state: a block that is answered as decoded, and one that is answered as the error vector
+abbrev pub decodedOut : Handed → Class → Handed
+decodedOut h k = record { begun = h .begun + cond (isS (kindIn k)) 1 0; replaced = h .replaced }
+
+abbrev pub replacedOut : Handed → Handed
+replacedOut h = record { begun = h .begun; replaced = h .replaced + 1 }
 
 pub record HandedWithin (n : ℕ) (h : Handed) : Type 0 where
   pub begun : h .begun ≤ n

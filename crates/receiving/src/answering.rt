@@ -12,7 +12,7 @@ ghost use lib.ListN.{length, take, drop};
 ghost use Rattle.decoding.specs.Vector.{vectorBytes};
 ghost use Rattle.receiving.specs.Receive.{letsEnd, stateOf, answerIn, isTerminate};
 ghost use Rattle.receiving.specs.Loop.{testedIn, heldState, heldBytes, heldHanded};
-ghost use Rattle.receiving.specs.Counted.{HandedWithin};
+ghost use Rattle.receiving.specs.Counted.{handOut, HandedWithin};
 
 // Whether the block before may end its frame: this one was tested in lock and not high, and is S or C.
 pub fn lets_end(next: Held) -> bool
@@ -38,26 +38,42 @@ fn state_step(s: State, h: Held, ends: bool) -> State
     State::Init
 }
 
+// A vector to be handed out, and what those handed out are counted for.
+struct Out {
+    vector: Vector,
+    handed: Handed,
+}
+
 // The Local Fault vector in INIT, the error vector in E, else the decoded block.
-fn answer_in(s: State, v: Vector) -> Vector
-    ensures { λ r. ⌜ vectorBytes r ≡ answerIn s (vectorBytes v) ⌝ }
+fn hand_out(n: Handed, s: State, h: Held) -> Out
+    requires { ⌜ HandedWithin 6600000 n ⌝ }
+    ensures { λ r. ⌜ (vectorBytes (r .vector) ≡ answerIn s (vectorBytes (h .vector))) × (r .handed ≡ handOut n (record { state = s; block = testedIn h })) ⌝ }
 {
+    let v = h.vector;
+    let class = h.class;
     match s {
-        State::Init => Vector {
-            c0: 0x01,
-            d0: 0x0100_009c,
-            c1: 0x01,
-            d1: 0x0100_009c,
+        State::Init => Out {
+            vector: Vector {
+                c0: 0x01,
+                d0: 0x0100_009c,
+                c1: 0x01,
+                d1: 0x0100_009c,
+            },
+            handed: n,
         },
-        State::Error => Vector {
-            c0: 0x0f,
-            d0: 0xfefe_fefe,
-            c1: 0x0f,
-            d1: 0xfefe_fefe,
+        State::Error => Out {
+            vector: Vector {
+                c0: 0x0f,
+                d0: 0xfefe_fefe,
+                c1: 0x0f,
+                d1: 0xfefe_fefe,
+            },
+            handed: counting::count_vector(n, class, false),
         },
-        State::Control => v,
-        State::Data => v,
-        State::Terminate => v,
+        State::Control | State::Data | State::Terminate => Out {
+            vector: v,
+            handed: counting::count_vector(n, class, true),
+        },
     }
 }
 
@@ -103,12 +119,14 @@ pub fn settle_held(
 {
     if have {
         let state = state_step(s, h, ends);
-        vectors::put_vector(room, at, answer_in(state, h.vector));
-        let more = counting::hand_out(handed, state, h);
+        let out = hand_out(handed, state, h);
+        let vector = out.vector;
+        let handed = out.handed;
+        vectors::put_vector(room, at, vector);
         return Answered {
             state: state,
             at: at + 10,
-            handed: more,
+            handed: handed,
         };
     }
     Answered {

@@ -4,14 +4,11 @@ use crate::Handed;
 use crate::Held;
 use block::Class;
 use block::Reason;
-use diagrams::State;
 ghost use mathlib.Core.Path.{_≡_};
-ghost use mathlib.Core.Bool.{cond, _&&_};
+ghost use mathlib.Core.Bool.{cond};
 ghost use Prim.Native.Nat.{_≤_};
 ghost use Rattle.block.specs.declared.Class.the-variants.{Bad};
-ghost use Rattle.block.specs.Block.{isS, kindIn};
-ghost use Rattle.receiving.specs.Receive.{decodes, errs};
-ghost use Rattle.receiving.specs.Counted.{reasoned, counted, Within, handOut, HandedWithin};
+ghost use Rattle.receiving.specs.Counted.{reasoned, counted, Within, decodedOut, replacedOut, HandedWithin};
 ghost use Rattle.receiving.specs.Loop.{testedIn};
 
 // 1 for true, 0 for false.
@@ -73,53 +70,33 @@ pub fn count_block(c: Counts, h: Held) -> Counts
     }
 }
 
-// The states that answer the decoded block.
-fn decodes_in(s: State) -> bool
-    ensures { λ r. ⌜ r ≡ decodes s ⌝ }
-{
-    match s {
-        State::Init => false,
-        State::Control => true,
-        State::Data => true,
-        State::Terminate => true,
-        State::Error => false,
-    }
-}
-
-// State E, which answers the error vector.
-fn errs_in(s: State) -> bool
-    ensures { λ r. ⌜ r ≡ errs s ⌝ }
-{
-    match s {
-        State::Init => false,
-        State::Control => false,
-        State::Data => false,
-        State::Terminate => false,
-        State::Error => true,
-    }
-}
-
-// A block of kind S that is answered as decoded.
-fn begins_in(s: State, class: Class) -> bool
-    ensures { λ r. ⌜ r ≡ isS (kindIn class) && decodes s ⌝ }
-{
-    match class {
-        Class::D => false,
-        Class::C => false,
-        Class::S => decodes_in(s),
-        Class::T => false,
-        Class::Bad(_) => false,
-    }
-}
-
-// The counts with one more vector: that of a block, in the state that the block led to.
-pub fn hand_out(n: Handed, s: State, h: Held) -> Handed
+// The counts with one more vector of a block that is answered as decoded: it begins a frame if the block is of kind S.
+fn count_decoded(n: Handed, class: Class) -> Handed
     requires { ⌜ HandedWithin 6600000 n ⌝ }
-    ensures { λ r. ⌜ r ≡ handOut n (record { state = s; block = testedIn h }) ⌝ }
+    ensures { λ r. ⌜ r ≡ decodedOut n class ⌝ }
 {
-    let class = h.class;
-    Handed {
-        begun: n.begun + one_if(begins_in(s, class)),
-        replaced: n.replaced + one_if(errs_in(s)),
+    let mut r = n;
+    match class {
+        Class::D => r,
+        Class::C => r,
+        Class::S => {
+            r.begun = n.begun + 1;
+            r
+        }
+        Class::T => r,
+        Class::Bad(_) => r,
     }
+}
+
+// The counts with one more vector, which is that of a block as decoded, or else the error vector.
+pub fn count_vector(n: Handed, class: Class, decoded: bool) -> Handed
+    requires { ⌜ HandedWithin 6600000 n ⌝ }
+    ensures { λ r. ⌜ r ≡ cond decoded (decodedOut n class) (replacedOut n) ⌝ }
+{
+    if decoded {
+        return count_decoded(n, class);
+    }
+    let mut r = n;
+    r.replaced = n.replaced + 1;
+    r
 }

@@ -13,36 +13,33 @@ use Rattle.receiving.proofs.answering.settle_held.Tie as tie
 state-step-requires : tie.Need-state-step-requires
 state-step-requires c κs = search needs
 
-answer-in-requires : tie.Need-answer-in-requires
-answer-in-requires c κs = search needs
-
-put-vector-requires : tie.Need-put-vector-requires
-put-vector-requires c κs =
-    let args = c .before .before .before .before .before .args in
-    let pre = c .before .before .before .before .before .pre in
-    let a = args in
-    omega
-    (arith, held-ten (a .s) (a .h) (a .ends), ap (λ (b : Bool). length (heldBytes b (a .s) (a .h) (a .ends))) (c .before .before .before .if1 .taken), pre .0)
-
 hand-out-requires : tie.Need-hand-out-requires
 hand-out-requires c κs = search needs
 
-add-t15 : tie.Need-add-t15
-add-t15 c = search needs
+put-vector-requires : tie.Need-put-vector-requires
+put-vector-requires c κs =
+    let args = c .before .before .before .before .before .before .before .args in
+    let pre = c .before .before .before .before .before .before .before .pre in
+    let a = args in
+    omega
+    (arith, held-ten (a .s) (a .h) (a .ends), ap (λ (b : Bool). length (heldBytes b (a .s) (a .h) (a .ends))) (c .before .before .before .before .before .if1 .taken), pre .0)
+
+add-t16 : tie.Need-add-t16
+add-t16 c = search needs
 
 same-length : tie.Need-same-length
 same-length c = search needs
 
 returns : tie.Need-returns
 returns c =
-    let args = c .before .before .before .before .before .before .before .before .before .args in
-    let if1 = c .before .before .before .before .before .before .before .if1 in
-    let state-step = c .before .before .before .before .before .before .state-step in
-    let answer-in = c .before .before .before .before .answer-in in
-    let put-vector = c .before .before .before .put-vector in
+    let args = c .before .before .before .before .before .before .before .before .before .before .args in
+    let if1 = c .before .before .before .before .before .before .before .before .if1 in
+    let state-step = c .before .before .before .before .before .before .before .state-step in
+    let hand-out = c .before .before .before .before .before .before .hand-out in
+    let put-vector = c .before .before .put-vector in
     let a = args in
-    held-put (a .have) (a .s) (a .h) (a .ends) (now (a .room)) (put-vector .last .0) (a .at) (a .handed) (c .hand-out .result) (state-step .result)
-    (answer-in .result) (if1 .taken) (state-step .ensures) (answer-in .ensures) (put-vector .ensures) (c .hand-out .ensures)
+    held-put (a .have) (a .s) (a .h) (a .ends) (now (a .room)) (put-vector .last .0) (a .at) (a .handed) (hand-out .result .handed) (state-step .result)
+    (hand-out .result .vector) (if1 .taken) (state-step .ensures) (hand-out .ensures .0) (put-vector .ensures) (hand-out .ensures .1)
 
 returns-2 : tie.Need-returns-2
 returns-2 c =
@@ -54,10 +51,9 @@ settle-held-spec =
     tie.close
     (tie.spec
     state-step-requires
-    answer-in-requires
-    put-vector-requires
     hand-out-requires
-    add-t15
+    put-vector-requires
+    add-t16
     same-length
     returns
     returns-2)
