@@ -9,7 +9,7 @@ use native.Mathlib.Numerals.{add-one}
 use native.Mathlib.Decide.{decLt}
 use lib.ListN.{length, getD}
 use lib.Bits.{bitAnd, bitOr, bitXor, differ, xor-shr, xor-step, or-shr, or-step, and-shr, and-step, block-half, block-odd}
-use lib.Pow.{pow-mono, pow-add, shr-shr, shl-shr, high, split, shl-exact}
+use lib.Pow.{pow-mono, pow-add, shr-shr, shl-shr, high, split}
 use lib.Arith.{lt-one}
 use Rattle.bits.specs.Bits.{bit, number, total, streamBit, cut}
 
@@ -208,17 +208,6 @@ number-add j (suc k) f =
     ∙ ap (λ (x : ℕ). number j f + number k (λ i. f (j + i)) * 2 ^ j + x) (sym (mul-assoc (f (j + k)) (2 ^ k) (2 ^ j)))
     ∙ add-assoc (number j f) (number k (λ i. f (j + i)) * 2 ^ j) (f (j + k) * 2 ^ k * 2 ^ j)
     ∙ ap (λ (x : ℕ). number j f + x) (sym (add-mul (number k (λ i. f (j + i))) (f (j + k) * 2 ^ k) (2 ^ j)))
-
--- one more bit, put at its place in a u64
-pub number-more : (f : ℕ → ℕ) (i r b : ℕ) → i < 64 → f i < 2 → r ≡ number i f → b ≡ f i → r + b * 2 ^ i % 2 ^ 64 ≡ number (i + 1) f
-unfolding number
-number-more f i r b l s p q =
-    ap₂ (λ (x y : ℕ). x + y) p (shl-exact 1 i 64 (omega arith) (omega arith) ∙ ap (λ (x : ℕ). x * 2 ^ i) q)
-    ∙ ap (λ (k : ℕ). number k f) (sym (add-one i))
-
--- .. and it still fits
-pub number-fits : (f : ℕ → ℕ) (i : ℕ) → ((j : ℕ) → f j < 2) → i < 64 → number (i + 1) f < 2 ^ 64
-number-fits f i h l = lt-of-lt-of-le (number-lt (i + 1) f (λ j m. h j)) (pow-mono {j = 64} (omega arith))
 
 -- ---- sums
 pub total-add : (f : ℕ → ℕ) (j n : ℕ) → total f (j + n) ≡ total f j + total (λ i. f (j + i)) n

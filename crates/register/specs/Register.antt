@@ -1,7 +1,8 @@
 -- A shift register of m + 1 bits with taps a and m + 1: a bit on the line is an input bit xor the line bits a and m + 1
 -- places before it. The scrambler is m = 57, a = 39; PRBS31 is m = 30, a = 28.
 use mathlib.Core.Bool.{cond}
-use Prim.Native.Nat.{ℕ, zero, suc, _+_, _-_, _*_, _/_, _%_, _^_}
+use mathlib.Core.Path.{_≡_}
+use Prim.Native.Nat.{ℕ, zero, suc, _+_, _-_, _*_, _/_, _%_, _^_, _<_}
 use lib.Dec.{ltb}
 use Rattle.bits.specs.Bits.{bit}
 
@@ -33,6 +34,10 @@ module _ (m a : ℕ) where
   -- .. and sent bit n
   unfoldable pub sent : (ℕ → ℕ) → ℕ → ℕ → ℕ
   sent x h n = mix (history x h n) (x n)
+
+  -- k bits can be sent at once: each follows from the history and its own input bit, whatever the other input bits are
+  abbrev pub Stride : ℕ → Type 0
+  Stride k = (x z : ℕ → ℕ) (h n : ℕ) → h < 2 ^ suc m → n < k → x n ≡ z n → sent x h n ≡ sent z h n
 
   -- receiving the line y: received input bit n
   unfoldable pub got : (ℕ → ℕ) → ℕ → ℕ → ℕ

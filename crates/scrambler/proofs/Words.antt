@@ -1,4 +1,4 @@
--- 64 line bits descrambled at once, by operations on words. Assumes nothing.
+-- 64 bits scrambled in two strides, and descrambled at once, by operations on words. Assumes nothing.
 use mathlib.Core.Path.{_≡_, refl, sym, ap, _∙_}
 use Prim.Native.Nat.{ℕ, _+_, _-_, _*_, _/_, _%_, _^_, _≤_, _<_}
 use native.Mathlib.Nat.{add-zero, add-comm, mod-lt, div-one}
@@ -6,10 +6,11 @@ use native.Mathlib.Omega.{arith}
 use lib.Bits.{bitXor, xor-lt}
 use lib.Pow.{pow-pos}
 use Rattle.bits.specs.Bits.{bit}
-use Rattle.bits.proofs.Laws.{bit-lt, by-lt, bit-shr, bit-high, shifted-low, shifted-high, bit-sum, xor-sum, is-number, same-bits}
-use Rattle.register.specs.Register.{pushes, got, whole}
-use Rattle.register.proofs.Laws.{whole-low, whole-high, past, pushes-lt, got-at}
-use Rattle.scrambler.specs.Scrambler.{descrambled, lineAfter}
+use Rattle.bits.proofs.Laws.{bit-lt, by-lt, bit-shr, bit-high, shifted-low, shifted-high, bit-xor, bit-sum, xor-sum, is-number, same-bits}
+use Rattle.register.specs.Register.{sent, pushes, got, whole}
+use Rattle.register.proofs.Strides.{sent-own}
+use Rattle.register.proofs.Laws.{sent-lt, whole-low, whole-high, past, pushes-lt, history-line, sent-at, got-at}
+use Rattle.scrambler.specs.Scrambler.{scrambled, historyAfter, descrambled, lineAfter}
 
 module _ (h : ℕ) (hb : h < 2 ^ 58) where
   -- 64 bits of the stream from place s on, as words: the history shifted right, and the line shifted left, of which v has what is needed
@@ -32,6 +33,55 @@ module _ (h : ℕ) (hb : h < 2 ^ 58) where
   top w y yb wb e =
       same-bits 58 (w / 2 ^ 6) (pushes 57 y h 64) (omega arith) (pushes-lt 57 y yb h hb 64)
       (λ j l. bit-shr w 6 j ∙ e (6 + j) (omega arith) ∙ sym (past 57 y yb h hb 64 j (omega arith) ∙ whole-high 57 h y (64 + j) (6 + j) (omega arith)))
+
+  module _ (p : ℕ) (pb : p < 2 ^ 64) where
+    -- what payload and history alone give: the sent bits below 39
+    abbrev pub known : ℕ
+    known = bitXor (bitXor p h) (h / 2 ^ 19)
+
+    -- the payload as it is sent, as it is worked out
+    abbrev pub parallel : ℕ
+    parallel = bitXor (bitXor known (known * 2 ^ 39 % 2 ^ 64)) (known * 2 ^ 58 % 2 ^ 64)
+
+    known-lt : known < 2 ^ 64
+    known-lt = xor-lt 64 (bitXor p h) (h / 2 ^ 19) (xor-lt 64 p h pb (omega arith)) (omega arith)
+
+    parallel-lt : parallel < 2 ^ 64
+    parallel-lt =
+        xor-lt 64 (bitXor known (known * 2 ^ 39 % 2 ^ 64)) (known * 2 ^ 58 % 2 ^ 64)
+        (xor-lt 64 known (known * 2 ^ 39 % 2 ^ 64) known-lt (mod-lt (known * 2 ^ 39) (pow-pos 64))) (mod-lt (known * 2 ^ 58) (pow-pos 64))
+
+    known-at : (n : ℕ) → bit known n ≡ (bit p n + bit h n + bit (h / 2 ^ 19) n) % 2
+    known-at n = omega (arith, bit-xor (bitXor p h) (h / 2 ^ 19) n, bit-xor p h n)
+
+    -- .. for none of these depends on another
+    known-sent : (n : ℕ) → n < 39 → sent 57 39 (bit p) h n ≡ bit known n
+    known-sent n l =
+        let a : bit h (n + 19) ≡ bit (h / 2 ^ 19) n = ap (bit h) (add-comm n 19) ∙ sym (bit-shr h 19 n) in
+        omega (arith, sent-own 57 39 (omega arith) (omega arith) (bit p) h n hb l, a, known-at n)
+
+    parallel-at : (n : ℕ) → n < 64 → bit parallel n ≡ sent 57 39 (bit p) h n
+    parallel-at n l =
+        let a : whole 57 h (sent 57 39 (bit p) h) (n + 19) ≡ bit (h / 2 ^ 19) n + bit (known * 2 ^ 39 % 2 ^ 64) n =
+        window (sent 57 39 (bit p) h) known 19 n (omega arith) l (λ i m. known-sent i (omega arith)) in
+        let b : whole 57 h (sent 57 39 (bit p) h) n ≡ bit (h / 2 ^ 0) n + bit (known * 2 ^ 58 % 2 ^ 64) n =
+        ap (whole 57 h (sent 57 39 (bit p) h)) (sym (add-zero n)) ∙ window (sent 57 39 (bit p) h) known 0 n (omega arith) l (λ i m. known-sent i (omega arith)) in
+        let s : bit parallel n ≡ (bit p n + bit h n + bit (h / 2 ^ 19) n + bit (known * 2 ^ 39 % 2 ^ 64) n + bit (known * 2 ^ 58 % 2 ^ 64) n) % 2 =
+        xor-sum _ _ n _ _ (xor-sum known _ n _ _ (known-at n) (bit-sum _ n)) (bit-sum _ n) in
+        let t : bit p n + bit h n + bit (h / 2 ^ 19) n + bit (known * 2 ^ 39 % 2 ^ 64) n + bit (known * 2 ^ 58 % 2 ^ 64) n
+        ≡ bit p n + whole 57 h (sent 57 39 (bit p) h) (n + 19) + whole 57 h (sent 57 39 (bit p) h) n =
+        omega (arith, a, b, ap (λ (x : ℕ). bit x n) (div-one h)) in
+        s ∙ ap (λ (x : ℕ). x % 2) t ∙ sym (sent-at 57 39 (bit p) h n hb (omega arith))
+
+    -- it is the one that is defined
+    pub scramble-word : parallel ≡ scrambled p h
+    unfolding scrambled
+    scramble-word = is-number 64 parallel (sent 57 39 (bit p) h) parallel-lt parallel-at
+
+    -- .. and so is the history
+    pub scramble-history : parallel / 2 ^ 6 ≡ historyAfter p h
+    unfolding historyAfter
+    scramble-history = top parallel (sent 57 39 (bit p) h) (sent-lt 57 39 (bit p) h) parallel-lt parallel-at ∙ sym (history-line 57 39 (bit p) h 64)
 
   module _ (w : ℕ) (wb : w < 2 ^ 64) where
     -- the payload, as it is worked out

@@ -9,23 +9,18 @@ pub struct Scrambled {
     pub history: u64,
 }
 
-// A payload as it is sent, bit by bit: each sent bit is the input bit xor the sent bits 39 and 58 places before.
+// A payload as it is sent, in two strides. "No sent bit depends on one less than 39 places before it": the first 39 follow from payload and
+// history alone. The other 25 want also the sent bits 39 places before them and, from the 58th on, those 58 places before: all of them are
+// among the first 39. No stride of 40 would do (proofs/Strides.antt).
 pub fn scramble(payload: u64, history: u64) -> Scrambled
     requires { ⌜ history < 2 ^ 58 ⌝ }
     ensures { λ r. ⌜ (r .word ≡ scrambled payload history) × (r .history ≡ historyAfter payload history) ⌝ }
 {
-    let mut word: u64 = 0;
-    let mut past = history;
-    let mut i: u64 = 0;
-    while i < 64 {
-        let b = ((payload >> i) ^ (past >> 19) ^ past) % 2;
-        word = word + (b << i);
-        past = past / 2 + (b << 57);
-        i += 1;
-    }
+    let known = payload ^ history ^ (history >> 19);
+    let word = known ^ (known << 39) ^ (known << 58);
     Scrambled {
-        word,
-        history: past,
+        word: word,
+        history: word >> 6,
     }
 }
 
@@ -41,16 +36,16 @@ pub fn descramble(word: u64, history: u64) -> Scrambled
     }
 }
 
-// A start state as a history, and a history as an end state: the 58 bits in the other order.
+// A start state as a history, and a history as an end state: the 58 bits in the other order. Neighbours change places, first bits, then pairs
+// of bits, and so on to the two halves of the word, which is then in the other order; its lowest 58 bits now stand 6 places up.
 pub fn mirrored(state: u64) -> u64
     ensures { λ r. ⌜ r ≡ mirror state ⌝ }
 {
-    let mut r: u64 = 0;
-    let mut i: u64 = 0;
-    while i < 58 {
-        let b = (state >> (57 - i)) % 2;
-        r = r + (b << i);
-        i += 1;
-    }
-    r
+    let a = ((state >> 1) & 0x5555_5555_5555_5555) | ((state & 0x5555_5555_5555_5555) << 1);
+    let b = ((a >> 2) & 0x3333_3333_3333_3333) | ((a & 0x3333_3333_3333_3333) << 2);
+    let c = ((b >> 4) & 0x0f0f_0f0f_0f0f_0f0f) | ((b & 0x0f0f_0f0f_0f0f_0f0f) << 4);
+    let d = ((c >> 8) & 0x00ff_00ff_00ff_00ff) | ((c & 0x00ff_00ff_00ff_00ff) << 8);
+    let e = ((d >> 16) & 0x0000_ffff_0000_ffff) | ((d & 0x0000_ffff_0000_ffff) << 16);
+    let f = ((e >> 32) & 0x0000_0000_ffff_ffff) | ((e & 0x0000_0000_ffff_ffff) << 32);
+    f >> 6
 }
