@@ -1,6 +1,7 @@
 -- The C boundary, document 01, 'What the probe's library covers': "Through C the summary goes into a lent slice of its own, which
--- takes the zeros of a refusal; one too short for it is refusal 4 and stays unchanged." Document 02, 3/13: receiving is lent its counters in
--- a slice of their own. Where a room, a summary or the counters are a number here, it is the length of the slice.
+-- takes the zeros of a refusal; one too short for it is refusal 4 and stays unchanged. .. A state or record that a later request passes
+-- through C is a lent slice too; one too short is refusal 4": receiving's counters (document 02, 3/13). Where a room, a summary or the
+-- counters are a number here, it is the length of the slice.
 use Prim.Native.Nat.{ℕ, _+_, _*_}
 use mathlib.Core.Bool.{Bool, cond, _||_}
 use mathlib.Core.List.{List, [], _∷_, _++_}
