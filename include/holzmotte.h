@@ -88,7 +88,7 @@ enum holzmotte_send_word {
  * Words 10 and 11 count vectors among those written, the last one too. Word 10 counts those of kind S: they have the Start (fb) of a
  * frame, in lane 0 of their first or second word, and blocks of type 33, 66 and 78 carry them. A Start block that is answered as the
  * error vector, or as Local Fault (not locked, or the error rate high), is not counted. Word 11 counts the error vectors,
- * 0f fe fe fe fe 0f fe fe fe fe, for bad blocks and for good ones out of turn. */
+ * 0f fe fe fe fe 0f fe fe fe fe, whatever they stand for: bad blocks, good ones out of turn, a Terminate that is not accepted. */
 enum holzmotte_receive_word {
     HOLZMOTTE_RECEIVE_TESTED = 0,              /* blocks whose header was tested */
     HOLZMOTTE_RECEIVE_SLIPS = 1,               /* slips: one line bit skipped for each, in search of lock */

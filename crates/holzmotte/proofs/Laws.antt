@@ -4,6 +4,7 @@ use mathlib.Core.Path.{_≡_, refl, sym, ap, ap₂, _∙_}
 use mathlib.Core.Bool.{false, cond}
 use mathlib.Core.List.{List, [], _∷_, _++_, append-assoc, append-nil}
 use native.Mathlib.Omega.{arith}
+use native.Mathlib.Nat.{mul-suc}
 use native.Mathlib.Numerals.{add-one}
 use lib.ListN.{length, getD, take, drop, length-append}
 use lib.Seq.{take-at, drop-at, drop-drop, take-suc, take-all, length-take-le}
@@ -54,10 +55,10 @@ pub summary-long : (n : ℕ) (words summary : List ℕ) → 8 * n ≤ length sum
 unfolding summaryWith
 summary-long n words summary l = rw (le-ltb (length summary) (8 * n) l)
 
-length-summary : (ws : List ℕ) → length (wordBytes 8 ws) ≡ 8 * length ws
-length-summary [] = refl
-length-summary (w ∷ ws) =
-    length-append (cut 8 (bit w) 8) (wordBytes 8 ws) ∙ omega (arith, length-cut 8 8 (bit w), length-summary ws)
+pub length-words : (k : ℕ) (ws : List ℕ) → length (wordBytes k ws) ≡ k * length ws
+length-words k [] = omega arith
+length-words k (w ∷ ws) =
+    length-append (cut 8 (bit w) k) (wordBytes k ws) ∙ omega (arith, length-cut 8 k (bit w), length-words k ws, mul-suc k (length ws))
 
 one-more : (ws : List ℕ) (w : ℕ) → wordBytes 8 (ws ++ w ∷ []) ≡ wordBytes 8 ws ++ cut 8 (bit w) 8
 one-more [] w = append-nil (cut 8 (bit w) 8)
@@ -82,7 +83,7 @@ module _ (before words : List ℕ) (room : 8 * length words ≤ length before) w
   put-next now next i l e m p = record { inside = omega arith; bytes = bytes; same = m ∙ p .same }
     where
       n : length (wordBytes 8 (take i words)) ≡ 8 * i
-      n = length-summary (take i words) ∙ ap (λ (k : ℕ). 8 * k) (length-take-le i words (p .inside))
+      n = length-words 8 (take i words) ∙ ap (λ (k : ℕ). 8 * k) (length-take-le i words (p .inside))
 
       head : take (8 * i) now ≡ wordBytes 8 (take i words)
       head = ap (take (8 * i)) (p .bytes) ∙ take-at (wordBytes 8 (take i words)) (drop (8 * i) before) (8 * i) n

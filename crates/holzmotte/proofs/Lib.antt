@@ -1,4 +1,5 @@
 pub mod Laws
 pub mod Sends
 pub mod Receives
+pub mod Totals
 pub mod Unique

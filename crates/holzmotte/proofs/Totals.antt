@@ -1,0 +1,75 @@
+-- The counters through C, call after call: what one call leaves is what the next one finds, and two calls in a row add up. Assumes nothing.
+use Prim.Native.Nat.{ℕ, zero, suc, _+_, _*_, _^_, _≤_, _<_, min}
+use mathlib.Core.Path.{_≡_, sym, ap, ap₂, _∙_}
+use mathlib.Core.List.{List, [], _∷_, _++_, append-assoc}
+use native.Mathlib.Nat.{le-of-suc-le-suc, not-suc-le-zero}
+use native.Mathlib.Omega.{arith}
+use lib.ListN.{length, getD, drop}
+use lib.Seq.{drop-at}
+use Rattle.bits.specs.Bits.{bit, number, streamBit, lineBit, cut}
+use Rattle.bits.proofs.Laws.{bit-lt, is-number, number-same, stream-cut, length-cut}
+use Rattle.bits.proofs.Lists.{stream-left, stream-right}
+use Rattle.receiving.specs.Counted.{plus, plusHanded}
+use Rattle.receiving.specs.declared.Counts.{Counts}
+use Rattle.receiving.specs.declared.Handed.{Handed}
+use Rattle.counters.specs.Counters.{becomes, updated}
+use Rattle.counters.specs.declared.Counters.{Counters}
+use Rattle.counters.proofs.Laws.{updated-twice}
+use Rattle.holzmotte.specs.Boundary.{wordBytes, counterAt, countersIn, counterWords, countersWith}
+use Rattle.holzmotte.proofs.Laws.{length-words}
+
+-- a word of 32 bits that was put is found again
+word-at : (ws rest : List ℕ) (i : ℕ) → i < length ws → getD ws i 0 < 2 ^ 32 → counterAt (wordBytes 4 ws ++ rest) i ≡ getD ws i 0
+unfolding lineBit
+word-at [] rest i l b = absurd (not-suc-le-zero l)
+word-at (w ∷ ws) rest zero l b =
+    sym
+    (is-number 32 w _ b
+    (λ j m.
+    let e : 32 * 0 + j ≡ j = omega arith in
+    sym
+    (ap₂ (streamBit 8) (append-assoc (cut 8 (bit w) 4) (wordBytes 4 ws) rest) e
+    ∙ stream-left 8 (omega arith) (cut 8 (bit w) 4) (wordBytes 4 ws ++ rest) j (omega (arith, length-cut 8 4 (bit w)))
+    ∙ stream-cut 8 (omega arith) 4 (bit w) (bit-lt w) j (omega arith))))
+word-at (w ∷ ws) rest (suc i) l b =
+    number-same 32 _ _
+    (λ j m.
+    let e : 32 * suc i + j ≡ 8 * length (cut 8 (bit w) 4) + (32 * i + j) = omega (arith, length-cut 8 4 (bit w)) in
+    ap₂ (streamBit 8) (append-assoc (cut 8 (bit w) 4) (wordBytes 4 ws) rest) e
+    ∙ stream-right 8 (omega arith) (cut 8 (bit w) 4) (wordBytes 4 ws ++ rest) (32 * i + j))
+    ∙ word-at ws rest i (le-of-suc-le-suc l) b
+
+module _ (c : Counters) (n : Counts) (h : Handed) (bytes : List ℕ) where
+  -- a counter has 32 bits
+  fits : (old added : ℕ) → becomes old added < 2 ^ 32
+  unfolding becomes
+  fits old added = omega arith
+
+  -- the counters that a call leaves are those that the next one finds
+  pub found : countersIn (countersWith (updated c n h) bytes) ≡ updated c n h
+  found =
+      λ i. record {
+        tested = at 0 (omega arith) (fits (c .tested) (n .tested)) i;
+        slips = at 1 (omega arith) (fits (c .slips) (n .slips)) i;
+        headers = at 2 (omega arith) (fits (c .headers) (n .headers)) i;
+        types = at 3 (omega arith) (fits (c .types) (n .types)) i;
+        codes = at 4 (omega arith) (fits (c .codes) (n .codes)) i;
+        sets = at 5 (omega arith) (fits (c .sets) (n .sets)) i;
+        begun = at 6 (omega arith) (fits (c .begun) (h .begun)) i;
+        replaced = at 7 (omega arith) (fits (c .replaced) (h .replaced)) i;
+      }
+    where
+      at : (k : ℕ) → k < 8 → getD (counterWords (updated c n h)) k 0 < 2 ^ 32
+          → counterAt (countersWith (updated c n h) bytes) k ≡ getD (counterWords (updated c n h)) k 0
+      at k l b = word-at (counterWords (updated c n h)) (drop 32 bytes) k l b
+
+  -- behind them nothing changes
+  behind : drop 32 (countersWith (updated c n h) bytes) ≡ drop 32 bytes
+  behind = drop-at (wordBytes 4 (counterWords (updated c n h))) (drop 32 bytes) 32 (length-words 4 (counterWords (updated c n h)))
+
+  -- two calls in a row add up
+  pub twice-in-bytes : (m : Counts) (k : Handed)
+      → countersWith (updated (countersIn (countersWith (updated c n h) bytes)) m k) (countersWith (updated c n h) bytes)
+      ≡ countersWith (updated c (plus n m) (plusHanded h k)) bytes
+  twice-in-bytes m k =
+      ap₂ (λ (z : Counters) (l : List ℕ). wordBytes 4 (counterWords z) ++ l) (ap (λ (z : Counters). updated z m k) found ∙ updated-twice c n m h k) behind
