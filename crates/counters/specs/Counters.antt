@@ -1,8 +1,12 @@
 -- Document 02, 3/13: "A counters record is lent to each call and updated in place".
 use Prim.Native.Nat.{ℕ, _+_, min}
-use Rattle.receiving.specs.Answer.{ReceiveAnswer, received, refused}
+use mathlib.Core.Path.{_≡_}
+use mathlib.Core.List.{List}
+use lib.ListN.{length}
+use Rattle.receiving.specs.Answer.{ReceiveAnswer, received, refused, receiveAnswer, Receives}
 use Rattle.receiving.specs.declared.Counts.{Counts}
 use Rattle.receiving.specs.declared.Handed.{Handed}
+use Rattle.receiving.specs.declared.Received.{Received}
 use Rattle.counters.specs.declared.Counters.{Counters}
 
 -- "each field becomes its old number plus what this receiving call added, and stays at 4,294,967,295 once it would pass that"
@@ -27,3 +31,7 @@ updated c n h =
 abbrev pub countersAfter : Counters → ReceiveAnswer → Counters
 countersAfter c (received s) = updated c (s .counts) (s .handed)
 countersAfter c (refused number place) = c
+
+-- the promise: `receive` was lent `room` and the counters `c` too, answered `r` and left `room′` and `c′`
+abbrev pub ReceivesCounting : (line room : List ℕ) (c : Counters) (r : Received) (room′ : List ℕ) (c′ : Counters) → Type 0
+ReceivesCounting line room c r room′ c′ = Receives line room r room′ × (c′ ≡ countersAfter c (receiveAnswer line (length room)))

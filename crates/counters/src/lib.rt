@@ -3,9 +3,7 @@ use receiving::Counts;
 use receiving::Handed;
 use receiving::Received;
 ghost use mathlib.Core.Path.{_≡_};
-ghost use lib.ListN.{length};
-ghost use Rattle.receiving.specs.Answer.{answerOf, receiveAnswer, receiveRoom};
-ghost use Rattle.counters.specs.Counters.{becomes, updated, countersAfter};
+ghost use Rattle.counters.specs.Counters.{becomes, updated, ReceivesCounting};
 
 // The firmware's running total: tested, slips, the four reasons, frames begun, vectors replaced.
 pub struct Counters {
@@ -54,9 +52,7 @@ pub fn add_counts(c: Counters, n: Counts, h: Handed) -> Counters
 
 // Receiving with counters by value: they come back with what the call added, or as they were.
 pub fn receive_by_value(line: &[u8], room: &mut [u8], c: Counters) -> Counted
-    ensures { λ r. ⌜ answerOf (r .answer) ≡ receiveAnswer (now (line .entry)) (length (now (room .entry))) ⌝ }
-    ensures { λ _. ⌜ now (room .exit) ≡ receiveRoom (now (line .entry)) (now (room .entry)) ⌝ }
-    ensures { λ r. ⌜ r .counters ≡ countersAfter c (receiveAnswer (now (line .entry)) (length (now (room .entry)))) ⌝ }
+    ensures { λ r. ⌜ ReceivesCounting (now (line .entry)) (now (room .entry)) c (r .answer) (now (room .exit)) (r .counters) ⌝ }
 {
     let answer = receiving::receive(line, room);
     match answer {
@@ -77,9 +73,7 @@ pub fn receive_by_value(line: &[u8], room: &mut [u8], c: Counters) -> Counted
 
 // Receiving with a lent record of counters, which is updated in place.
 pub fn receive(line: &[u8], room: &mut [u8], counters: &mut Counters) -> Received
-    ensures { λ r. ⌜ answerOf r ≡ receiveAnswer (now (line .entry)) (length (now (room .entry))) ⌝ }
-    ensures { λ _. ⌜ now (room .exit) ≡ receiveRoom (now (line .entry)) (now (room .entry)) ⌝ }
-    ensures { λ _. ⌜ now (counters .exit) ≡ countersAfter (now (counters .entry)) (receiveAnswer (now (line .entry)) (length (now (room .entry)))) ⌝ }
+    ensures { λ r. ⌜ ReceivesCounting (now (line .entry)) (now (room .entry)) (now (counters .entry)) r (now (room .exit)) (now (counters .exit)) ⌝ }
 {
     let r = receive_by_value(line, room, *counters);
     let after = r.counters;

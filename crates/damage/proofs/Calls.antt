@@ -21,15 +21,16 @@ use Rattle.diagrams.specs.declared.State.the-variants.{Init, Control, Data, Ter
 use Rattle.refusals.specs.First.{Verdict, first, accepted, byVerdict}
 use Rattle.sending.specs.Send.{vectorsIn, errorBlock, lineWords, blocksFor, sentLine}
 use Rattle.sending.specs.Answer as Sending
+use Rattle.sending.specs.Answer.{Sends}
 use Rattle.sending.specs.declared.Sending.{Sending}
 use Rattle.sending.specs.declared.Sent.the-variants as Sent
 use Rattle.receiving.specs.Machine.{linkFresh, linkOf, testedOf}
 use Rattle.receiving.specs.Receive.{answerIn, judge, answers, vectorsOf, receivedVectors}
 use Rattle.receiving.specs.Answer as Receiving
+use Rattle.receiving.specs.Answer.{Receives}
 use Rattle.receiving.specs.declared.Link.{Link}
 use Rattle.receiving.specs.declared.Received.{Received}
 use Rattle.demands.specs.Words.{accepts, Unbroken}
-use Rattle.demands.specs.Promises.{Sends, Receives}
 use Rattle.demands.specs.Demand1.{Outcome, succeeds, refuses}
 use Rattle.demands.proofs.Demand1.{none-is, demand-1-of-send}
 use Rattle.demands.proofs.Runs.{testedAll}

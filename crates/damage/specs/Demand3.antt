@@ -12,13 +12,13 @@ use Rattle.line.specs.declared.Block.{Block}
 use Rattle.block.specs.Block.{Format, formatOf, decoded, errorVector, flagOf, laneOf}
 use Rattle.block.specs.Rows.{placeAt}
 use Rattle.sending.specs.Send.{vectorsIn, errorBlock, blocksFor, sentLine}
+use Rattle.sending.specs.Answer.{Sends}
 use Rattle.sending.specs.declared.Sending.{Sending}
 use Rattle.sending.specs.declared.Sent.the-variants as Sent
 use Rattle.receiving.specs.Receive.{vectorsOf}
-use Rattle.receiving.specs.Answer.{answerOf, received, summaryOf}
+use Rattle.receiving.specs.Answer.{answerOf, received, summaryOf, Receives}
 use Rattle.receiving.specs.declared.Received.{Received}
 use Rattle.demands.specs.Words.{accepts, Unbroken}
-use Rattle.demands.specs.Promises.{Sends, Receives}
 use Rattle.damage.specs.Damage.{damaged, Flips, flipsBefore}
 
 -- ---- a block that was sent, as it was before scrambling

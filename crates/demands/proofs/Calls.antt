@@ -14,15 +14,16 @@ use Rattle.refusals.specs.First.{Verdict, accepted, refused, first, byVerdict}
 use Rattle.sending.specs.Send as Send
 use Rattle.sending.specs.Send.{sentLine, lineWords, blocksFor}
 use Rattle.sending.specs.Answer as Sending
+use Rattle.sending.specs.Answer.{Sends}
 use Rattle.sending.specs.declared.Sending.{Sending}
 use Rattle.sending.specs.declared.Sent.the-variants as Sent
 use Rattle.receiving.specs.Receive as Receive
 use Rattle.receiving.specs.Answer as Receiving
+use Rattle.receiving.specs.Answer.{Receives}
 use Rattle.receiving.specs.declared.Summary.{Summary}
 use Rattle.receiving.specs.declared.Received.{Received}
 use Rattle.receiving.specs.declared.Received.the-variants as Received
 use Rattle.demands.specs.Words.{accepts, Unbroken}
-use Rattle.demands.specs.Promises.{Sends, Receives}
 use Rattle.demands.specs.Demand2.{Returnable, faults, Demand2OfCalls}
 use Rattle.demands.proofs.Accepted.{not-long}
 use Rattle.demands.proofs.Demand2.{demand-2}

@@ -15,12 +15,11 @@ use Rattle.sending.specs.declared.Sent.{Sent}
 use Rattle.receiving.specs.Receive.{receivedVectors}
 use Rattle.receiving.specs.Answer as Receiving
 use Rattle.receiving.specs.declared.Received.{Received}
-use Rattle.counters.specs.Counters.{updated}
+use Rattle.counters.specs.Counters.{updated, ReceivesCounting}
 use Rattle.counters.specs.declared.Counters.{Counters}
 use Rattle.records.specs.Record as Records
 use Rattle.records.specs.declared.Found.{Found}
 use Rattle.records.specs.declared.Written.{Written}
-use Rattle.demands.specs.Promises.{Sends, Receives, ReceivesCounting, Finds, Writes}
 
 -- no row of a list of refusals applies
 abbrev pub NoneApplies : List Check → Type 0
@@ -44,7 +43,7 @@ pub data Outcome {A : Type 0} (checks : List Check) (came success : A) (refusal 
 -- sending
 abbrev pub Demand1OfSend : Type 0
 Demand1OfSend =
-    (bytes : List ℕ) (start : ℕ) (room : List ℕ) (r : Sent) (room′ : List ℕ) → Sends bytes start room r room′
+    (bytes : List ℕ) (start : ℕ) (room : List ℕ) (r : Sent) (room′ : List ℕ) → Sending.Sends bytes start room r room′
     → Outcome {A = Sending.SendAnswer × List ℕ} (Sending.sendChecks bytes start (length room))
     (Sending.answerOf r, room′)
     (Sending.sentFor bytes start, sentLine bytes start ++ drop (length (sentLine bytes start)) room)
@@ -53,7 +52,7 @@ Demand1OfSend =
 -- receiving
 abbrev pub Demand1OfReceive : Type 0
 Demand1OfReceive =
-    (line room : List ℕ) (r : Received) (room′ : List ℕ) → Receives line room r room′
+    (line room : List ℕ) (r : Received) (room′ : List ℕ) → Receiving.Receives line room r room′
     → Outcome {A = Receiving.ReceiveAnswer × List ℕ} (Receiving.receiveChecks (length line) (length room))
     (Receiving.answerOf r, room′)
     (Receiving.received (Receiving.summaryOf line), receivedVectors line ++ drop (length (receivedVectors line)) room)
@@ -74,7 +73,7 @@ Demand1OfReceiveCounting =
 -- writing a record
 abbrev pub Demand1OfWrite : Type 0
 Demand1OfWrite =
-    (kind : ℕ) (body room : List ℕ) (r : Written) (room′ : List ℕ) → Writes kind body room r room′
+    (kind : ℕ) (body room : List ℕ) (r : Written) (room′ : List ℕ) → Records.Writes kind body room r room′
     → Outcome {A = Records.WriteAnswer × List ℕ} (Records.writeChecks Records.bodyLimit kind body (length room))
     (Records.writeAnswerOf r, room′)
     (Records.wrote (length body + 4), Records.recordOf kind body ++ drop (length body + 4) room)
@@ -85,7 +84,7 @@ Demand1OfWrite =
 -- a place at or past the end of the file is a plain end of records
 abbrev pub Demand1OfRead : Type 0
 Demand1OfRead =
-    (file : List ℕ) (place : ℕ) (r : Found) → Finds file place r
+    (file : List ℕ) (place : ℕ) (r : Found) → Records.Finds file place r
     → ((length file ≤ place) × (Records.answerOf r ≡ Records.end))
     ⊎ ((place < length file)
     × Outcome (Records.readChecks Records.bodyLimit file place) (Records.answerOf r)

@@ -9,14 +9,14 @@ use mathlib.Core.List.{List, _++_, flatten}
 use lib.ListN.{length, take, drop, replicate}
 use Rattle.block.specs.Block.{localFaultVector}
 use Rattle.sending.specs.Send as Send
+use Rattle.sending.specs.Answer.{Sends}
 use Rattle.sending.specs.declared.Sending.{Sending}
 use Rattle.sending.specs.declared.Sent.the-variants as Sent
 use Rattle.receiving.specs.Receive as Receive
-use Rattle.receiving.specs.Answer.{summaryOf}
+use Rattle.receiving.specs.Answer.{summaryOf, Receives}
 use Rattle.receiving.specs.declared.Received.{Received}
 use Rattle.receiving.specs.declared.Received.the-variants as Received
 use Rattle.demands.specs.Words.{accepts, legal, controlVectors, Unbroken}
-use Rattle.demands.specs.Promises.{Sends, Receives}
 
 -- the lists that the demand speaks of: legal, the first 64 control vectors (so there are 64)
 pub record Returnable (vectors : List (List ℕ)) : Type 0 where

@@ -2,7 +2,6 @@
 -- its place; a refusal leaves zeros in the summary, and the room and the counters as they were. A summary too short for its words is
 -- refusal 4, after 1, 2 and 3 in sending, after 1 in receiving; so are counters too short.
 use Prim.Native.Nat.{ℕ, _+_, _*_}
-use mathlib.Core.Path.{_≡_}
 use mathlib.Core.Bool.{cond}
 use mathlib.Core.List.{List, _++_}
 use lib.ListN.{length, drop, replicate}
@@ -15,21 +14,6 @@ use Rattle.counters.specs.Counters.{updated}
 use Rattle.holzmotte.specs.Boundary as Boundary
 use Rattle.demands.specs.Demand1.{Outcome}
 
--- `holzmotte_send`, through C, was lent `room` and `summary`, returned `r` and left `room′` and `summary′`
-abbrev pub SendsThroughC : (bytes : List ℕ) (start : ℕ) (room summary : List ℕ) (r : ℕ) (room′ summary′ : List ℕ) → Type 0
-SendsThroughC bytes start room summary r room′ summary′ =
-    (r ≡ Boundary.sendResult bytes start (length room) (length summary))
-    × (room′ ≡ Boundary.sendLine bytes start room (length summary))
-    × (summary′ ≡ Boundary.sendSummary bytes start (length room) summary)
-
--- `holzmotte_receive`, through C, was lent `room`, `summary` and `counters`, returned `r` and left `room′`, `summary′` and `counters′`
-abbrev pub ReceivesThroughC : (line room summary counters : List ℕ) (r : ℕ) (room′ summary′ counters′ : List ℕ) → Type 0
-ReceivesThroughC line room summary counters r room′ summary′ counters′ =
-    (r ≡ Boundary.receiveResult (length line) (length room) (length summary) (length counters))
-    × (room′ ≡ Boundary.receiveVectors line room (length summary) (length counters))
-    × (summary′ ≡ Boundary.receiveSummary line (length room) summary (length counters))
-    × (counters′ ≡ Boundary.receiveCounters line (length room) (length summary) counters)
-
 -- the summary of a refusal: zeros for its words; one too short for them stays unchanged
 abbrev pub zeroed : (words : ℕ) (summary : List ℕ) → List ℕ
 zeroed words summary = cond (Boundary.tooShort 8 words (length summary)) summary (replicate (8 * words) 0 ++ drop (8 * words) summary)
@@ -38,7 +22,7 @@ zeroed words summary = cond (Boundary.tooShort 8 words (length summary)) summary
 abbrev pub Demand1OfSendThroughC : Type 0
 Demand1OfSendThroughC =
     (bytes : List ℕ) (start : ℕ) (room summary : List ℕ) (r : ℕ) (room′ summary′ : List ℕ)
-    → SendsThroughC bytes start room summary r room′ summary′
+    → Boundary.SendsThroughC bytes start room summary r room′ summary′
     → Outcome {A = ℕ × List ℕ × List ℕ} (Boundary.after 3 (check 4 (Boundary.tooShort 8 3 (length summary))) (Sending.sendChecks bytes start (length room)))
     (r, room′, summary′) (
       0,
@@ -51,7 +35,7 @@ Demand1OfSendThroughC =
 abbrev pub Demand1OfReceiveThroughC : Type 0
 Demand1OfReceiveThroughC =
     (line room summary counters : List ℕ) (r : ℕ) (room′ summary′ counters′ : List ℕ)
-    → ReceivesThroughC line room summary counters r room′ summary′ counters′
+    → Boundary.ReceivesThroughC line room summary counters r room′ summary′ counters′
     → Outcome {A = ℕ × List ℕ × List ℕ × List ℕ}
     (Boundary.after 1 (check 4 (Boundary.shortSlice (length summary) (length counters))) (Receiving.receiveChecks (length line) (length room)))
     (r, room′, summary′, counters′) (

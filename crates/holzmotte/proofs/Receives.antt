@@ -14,7 +14,7 @@ use Rattle.receiving.specs.Answer as Answer
 use Rattle.receiving.specs.declared.Summary.{Summary}
 use Rattle.counters.specs.Counters.{updated, countersAfter}
 use Rattle.counters.specs.declared.Counters.{Counters}
-use Rattle.holzmotte.specs.Boundary.{resultOf, after, wordBytes, flagWord, tooShort, summaryWith, countersIn, countersWith, receiveLength, shortSlice, receiveVerdict, receiveWords, receiveResult, receiveVectors, receiveSummary, receiveCounters}
+use Rattle.holzmotte.specs.Boundary.{resultOf, after, wordBytes, flagWord, tooShort, summaryWith, countersIn, countersWith, receiveLength, shortSlice, receiveVerdict, receiveWords, receiveResult, receiveVectors, receiveSummary, receiveCounters, ReceivesThroughC}
 use Rattle.holzmotte.proofs.Laws.{first-after, shortOf, summary-long}
 
 -- an answer tells the verdict
@@ -79,27 +79,19 @@ small line room number place e =
 -- ---- what a call comes to
 
 module _ (line room summary counters : List ℕ) where
-  -- the result, and the three slices afterwards
-  abbrev pub Comes : ℕ → (room′ summary′ counters′ : List ℕ) → Type 0
-  Comes r room′ summary′ counters′ =
-      (r ≡ receiveResult (length line) (length room) (length summary) (length counters))
-      × (room′ ≡ receiveVectors line room (length summary) (length counters))
-      × (summary′ ≡ receiveSummary line (length room) summary (length counters))
-      × (counters′ ≡ receiveCounters line (length room) (length summary) counters)
-
   -- by the verdict
   abbrev verdict : Verdict
   verdict = receiveVerdict (length line) (length room) (length summary) (length counters)
 
   -- a refusal clears the summary and changes no other slice
   refuses : (number place : ℕ) → verdict ≡ refused number place
-      → Comes (number + 256 * place) room (summaryWith receiveLength (replicate receiveLength 0) summary) counters
+      → ReceivesThroughC line room summary counters (number + 256 * place) room (summaryWith receiveLength (replicate receiveLength 0) summary) counters
   unfolding receiveResult receiveVectors receiveSummary receiveCounters
   refuses number place v = (rw v, rw v, rw v, rw v)
 
   -- with a slice too short
   pub shortly : (r : ℕ) → shortSlice (length summary) (length counters) ≡ true → r ≡ receiveResult (length line) (length room) (length summary) (length counters)
-      → Comes r room (summaryWith receiveLength (replicate receiveLength 0) summary) counters
+      → ReceivesThroughC line room summary counters r room (summaryWith receiveLength (replicate receiveLength 0) summary) counters
   shortly r l e =
       let t = refuses _ _ (short-verdict (length line) (length room) (length summary) (length counters) l) in
       (e, t .1, t .2, t .3)
@@ -123,7 +115,7 @@ module _ (line room summary counters : List ℕ) where
 
     -- a refusal
     pub refused-so : (number place : ℕ) (room′ : List ℕ) → Answer.refused number place ≡ receiveAnswer line (length room) → room′ ≡ receiveRoom line room
-        → Comes (number + 256 * place) room′ (summaryWith receiveLength (replicate receiveLength 0) summary) counters
+        → ReceivesThroughC line room summary counters (number + 256 * place) room′ (summaryWith receiveLength (replicate receiveLength 0) summary) counters
     unfolding receiveRoom
     refused-so number place room′ e r =
         let c : first (receiveChecks (length line) (length room)) ≡ refused number place = sym (ap verdictOf e ∙ verdict-told line (length room)) in
@@ -134,7 +126,7 @@ module _ (line room summary counters : List ℕ) where
     pub received-so : (s : Summary) (old new : Counters) (room′ summary′ counters′ : List ℕ) → received s ≡ receiveAnswer line (length room) → room′ ≡ receiveRoom line room
         → summary′ ≡ wordBytes 8 (receiveWords (received s)) ++ drop (8 * receiveLength) summary
         → old ≡ countersIn counters → new ≡ countersAfter old (receiveAnswer line (length room)) → counters′ ≡ countersWith new counters
-        → Comes 0 room′ summary′ counters′
+        → ReceivesThroughC line room summary counters 0 room′ summary′ counters′
     unfolding receiveAnswer receiveResult receiveVectors receiveSummary receiveCounters
     received-so s old new room′ summary′ counters′ e r w o n k =
         let a : first (receiveChecks (length line) (length room)) ≡ accepted = sym (ap verdictOf e ∙ verdict-told line (length room)) in

@@ -12,7 +12,7 @@ use Rattle.block.specs.Block.{highControl}
 use Rattle.sending.specs.Answer.{SendAnswer, sendChecks, sendAnswer, sendRoom}
 use Rattle.sending.specs.Answer as Answer
 use Rattle.sending.proofs.Verdicts.{verdictOf, verdict-told, place-small}
-use Rattle.holzmotte.specs.Boundary.{resultOf, after, wordBytes, tooShort, sendVerdict, sendWords, sendResult, sendLine, sendSummary}
+use Rattle.holzmotte.specs.Boundary.{resultOf, after, wordBytes, tooShort, sendVerdict, sendWords, sendResult, sendLine, sendSummary, SendsThroughC}
 use Rattle.holzmotte.proofs.Laws.{long-first, shortOf, kept, summary-short, summary-long}
 
 -- a summary too short: 1, 2 and 3 come before it, and it before all else
@@ -66,9 +66,7 @@ small vectors start room number place e = place-small vectors start room number 
 -- with a summary too short
 pub shortly : (vectors room summary : List ℕ) (start result : ℕ) → length summary < 8 * 3
     → result ≡ sendResult vectors start (length room) (length summary)
-    → (result ≡ sendResult vectors start (length room) (length summary))
-    × (room ≡ sendLine vectors start room (length summary))
-    × (summary ≡ sendSummary vectors start (length room) summary)
+    → SendsThroughC vectors start room summary result room summary
 unfolding sendLine sendSummary
 shortly vectors room summary start result l e = (
   e,
@@ -80,9 +78,7 @@ shortly vectors room summary start result l e = (
 pub answered : (vectors room summary room′ summary′ : List ℕ) (start : ℕ) (answer : SendAnswer) → 8 * 3 ≤ length summary
     → answer ≡ sendAnswer vectors start (length room) → room′ ≡ sendRoom vectors start room
     → summary′ ≡ wordBytes 8 (sendWords answer) ++ drop 24 summary
-    → (resultOf (verdictOf answer) ≡ sendResult vectors start (length room) (length summary))
-    × (room′ ≡ sendLine vectors start room (length summary))
-    × (summary′ ≡ sendSummary vectors start (length room) summary)
+    → SendsThroughC vectors start room summary (resultOf (verdictOf answer)) room′ summary′
 unfolding sendAnswer sendResult sendVerdict sendLine sendSummary sendRoom
 answered vectors room summary room′ summary′ start answer l e r s =
     let v : first (after 3 (check 4 (tooShort 8 3 (length summary))) (sendChecks vectors start (length room))) ≡ first (sendChecks vectors start (length room)) =

@@ -4,6 +4,7 @@
 -- counters are a number here, it is the length of the slice.
 use Prim.Native.Nat.{ℕ, _+_, _*_}
 use mathlib.Core.Bool.{Bool, cond, _||_}
+use mathlib.Core.Path.{_≡_}
 use mathlib.Core.List.{List, [], _∷_, _++_}
 use lib.ListN.{length, take, drop, replicate}
 use lib.Dec.{ltb}
@@ -58,6 +59,13 @@ sendLine vectors start room summary =
 unfoldable pub sendSummary : List ℕ → (start room : ℕ) → List ℕ → List ℕ
 sendSummary vectors start room summary =
     summaryWith 3 (sendWords (byVerdict (sendVerdict vectors start room (length summary)) (Send.sentFor vectors start) Send.refused)) summary
+
+-- the promise: `holzmotte_send` was lent `room` and `summary`, returned `r` and left `room′` and `summary′`
+abbrev pub SendsThroughC : (vectors : List ℕ) (start : ℕ) (room summary : List ℕ) (r : ℕ) (room′ summary′ : List ℕ) → Type 0
+SendsThroughC vectors start room summary r room′ summary′ =
+    (r ≡ sendResult vectors start (length room) (length summary))
+    × (room′ ≡ sendLine vectors start room (length summary))
+    × (summary′ ≡ sendSummary vectors start (length room) summary)
 
 -- ---- the counters: eight words of 32 bits
 
@@ -131,3 +139,11 @@ receiveCounters line room summary counters =
     let s = Receive.summaryOf line in
     byVerdict (receiveVerdict (length line) room summary (length counters))
     (countersWith (updated (countersIn counters) (s .counts) (s .handed)) counters) (λ number place. counters)
+
+-- the promise: `holzmotte_receive` was lent `room`, `summary` and `counters`, returned `r` and left `room′`, `summary′` and `counters′`
+abbrev pub ReceivesThroughC : (line room summary counters : List ℕ) (r : ℕ) (room′ summary′ counters′ : List ℕ) → Type 0
+ReceivesThroughC line room summary counters r room′ summary′ counters′ =
+    (r ≡ receiveResult (length line) (length room) (length summary) (length counters))
+    × (room′ ≡ receiveVectors line room (length summary) (length counters))
+    × (summary′ ≡ receiveSummary line (length room) summary (length counters))
+    × (counters′ ≡ receiveCounters line (length room) (length summary) counters)

@@ -18,7 +18,7 @@ ghost use mathlib.Core.Bool.{true};
 ghost use Rattle.bits.specs.Bits.{bit, cut};
 ghost use Rattle.refusals.specs.Number.{numberOf};
 ghost use Rattle.receiving.specs.Answer.{received};
-ghost use Rattle.holzmotte.specs.Boundary.{flagWord, wordBytes, summaryWith, shortSlice, countersIn, countersWith, receiveLength, receiveWords, sendResult, sendLine, sendSummary, receiveResult, receiveVectors, receiveSummary, receiveCounters};
+ghost use Rattle.holzmotte.specs.Boundary.{flagWord, wordBytes, summaryWith, shortSlice, countersIn, countersWith, receiveLength, receiveWords, sendResult, SendsThroughC, receiveResult, ReceivesThroughC};
 
 // A refusal as a result.
 fn refusal(why: Refusal, place: usize) -> u64
@@ -66,9 +66,7 @@ pub extern "C" fn holzmotte_send(
     line: &mut [u8],
     summary: &mut [u8],
 ) -> u64
-    ensures { λ r. ⌜ r ≡ sendResult (now (vectors .entry)) start (length (now (line .entry))) (length (now (summary .entry))) ⌝ }
-    ensures { λ _. ⌜ now (line .exit) ≡ sendLine (now (vectors .entry)) start (now (line .entry)) (length (now (summary .entry))) ⌝ }
-    ensures { λ _. ⌜ now (summary .exit) ≡ sendSummary (now (vectors .entry)) start (length (now (line .entry))) (now (summary .entry)) ⌝ }
+    ensures { λ r. ⌜ SendsThroughC (now (vectors .entry)) start (now (line .entry)) (now (summary .entry)) r (now (line .exit)) (now (summary .exit)) ⌝ }
 {
     if summary.len() < 24 {
         return send_short(vectors, start);
@@ -193,10 +191,7 @@ pub extern "C" fn holzmotte_receive(
     summary: &mut [u8],
     counters: &mut [u8],
 ) -> u64
-    ensures { λ r. ⌜ r ≡ receiveResult (length (now (line .entry))) (length (now (vectors .entry))) (length (now (summary .entry))) (length (now (counters .entry))) ⌝ }
-    ensures { λ _. ⌜ now (vectors .exit) ≡ receiveVectors (now (line .entry)) (now (vectors .entry)) (length (now (summary .entry))) (length (now (counters .entry))) ⌝ }
-    ensures { λ _. ⌜ now (summary .exit) ≡ receiveSummary (now (line .entry)) (length (now (vectors .entry))) (now (summary .entry)) (length (now (counters .entry))) ⌝ }
-    ensures { λ _. ⌜ now (counters .exit) ≡ receiveCounters (now (line .entry)) (length (now (vectors .entry))) (length (now (summary .entry))) (now (counters .entry)) ⌝ }
+    ensures { λ r. ⌜ ReceivesThroughC (now (line .entry)) (now (vectors .entry)) (now (summary .entry)) (now (counters .entry)) r (now (vectors .exit)) (now (summary .exit)) (now (counters .exit)) ⌝ }
 {
     if short_slice(summary.len(), counters.len()) {
         clear(summary);

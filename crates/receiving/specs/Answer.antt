@@ -1,5 +1,6 @@
 -- What receiving answers, and what it leaves in the lent room: document 01, 'Refusal numbers' and the last lines of 'Diagrams'.
 use Prim.Native.Nat.{ℕ, _*_, _/_}
+use mathlib.Core.Path.{_≡_}
 use mathlib.Core.List.{List, [], _∷_, _++_}
 use lib.ListN.{length, drop}
 use lib.Dec.{ltb}
@@ -46,3 +47,7 @@ receiveRoom line room =
 abbrev pub answerOf : Received → ReceiveAnswer
 answerOf (Done summary) = received summary
 answerOf (Refused why place) = refused (numberOf why) place
+
+-- the promise: `receive` was lent `room` for the vectors, answered `r` and left `room′`
+abbrev pub Receives : (line room : List ℕ) (r : Received) (room′ : List ℕ) → Type 0
+Receives line room r room′ = (answerOf r ≡ receiveAnswer line (length room)) × (room′ ≡ receiveRoom line room)

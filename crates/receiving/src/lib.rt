@@ -14,7 +14,7 @@ ghost use Prim.Native.Nat.{_*_, _/_, _≤_, _<_};
 ghost use lib.ListN.{length};
 ghost use Rattle.tables.specs.Tables.{tables, types};
 ghost use Rattle.carrying.specs.Carrying.{Sound};
-ghost use Rattle.receiving.specs.Answer.{answerOf, receiveAnswer, receiveRoom};
+ghost use Rattle.receiving.specs.Answer.{Receives};
 ghost use Rattle.receiving.specs.Ranges.{InRange};
 ghost use Rattle.receiving.specs.Loop.{Under, Turns, Ends, Fresh, written};
 
@@ -225,7 +225,7 @@ fn fresh() -> Receiver
 // Receiving with lent tables, those of the crate tables.
 fn receive_with(t: &[u16; 3170], y: &[u8; 256], line: &[u8], room: &mut [u8]) -> Received
     requires { ⌜ (now t ≡ tables) × (now y ≡ types) ⌝ }
-    ensures { λ r. ⌜ (answerOf r ≡ receiveAnswer (now (line .entry)) (length (now (room .entry)))) × (now (room .exit) ≡ receiveRoom (now (line .entry)) (now (room .entry))) ⌝ }
+    ensures { λ r. ⌜ Receives (now (line .entry)) (now (room .entry)) r (now (room .exit)) ⌝ }
 {
     if 825000 < line.len() {
         return Received::Refused(Refusal::TooMuch, 0);
@@ -259,7 +259,7 @@ fn receive_with(t: &[u16; 3170], y: &[u8; 256], line: &[u8], room: &mut [u8]) ->
 
 // Receiving a line: its vectors go to the room, from its start.
 pub fn receive(line: &[u8], room: &mut [u8]) -> Received
-    ensures { λ r. ⌜ (answerOf r ≡ receiveAnswer (now (line .entry)) (length (now (room .entry)))) × (now (room .exit) ≡ receiveRoom (now (line .entry)) (now (room .entry))) ⌝ }
+    ensures { λ r. ⌜ Receives (now (line .entry)) (now (room .entry)) r (now (room .exit)) ⌝ }
 {
     let t = tables::block_tables();
     let y = tables::type_table();

@@ -5,7 +5,7 @@ use mathlib.Core.List.{List, _++_}
 use lib.ListN.{length, drop}
 use Rattle.refusals.specs.Number.{numberOf}
 use Rattle.refusals.proofs.Laws.{number-injective}
-use Rattle.records.specs.Record.{bodyLimit, answerOf, readAt, bodyOf, wantedOf, recordOf, writeAnswerOf, writeAnswer, writtenRoom}
+use Rattle.records.specs.Record.{bodyLimit, answerOf, Finds, bodyOf, wantedOf, recordOf, writeAnswerOf, Writes}
 use Rattle.records.specs.declared.Found.{Found}
 use Rattle.records.specs.declared.Found.the-variants.{Whole, End, Refused}
 use Rattle.records.specs.declared.Written.{Written}
@@ -35,7 +35,7 @@ write-answer-injective (Case.Refused w) (Case.Refused w′) e =
     let u = number-injective w w′ n in
     cc
 
-pub read-unique : (s : List ℕ) (at : ℕ) (a b : Found) → answerOf a ≡ readAt bodyLimit s at → answerOf b ≡ readAt bodyLimit s at → a ≡ b
+pub read-unique : (s : List ℕ) (at : ℕ) (a b : Found) → Finds s at a → Finds s at b → a ≡ b
 read-unique s at a b p q = answer-injective a b (p ∙ sym q)
 
 pub wanted-unique : (head : List ℕ) (a b : ℕ) → a ≡ wantedOf bodyLimit head → b ≡ wantedOf bodyLimit head → a ≡ b
@@ -48,7 +48,5 @@ pub put-unique : (kind : ℕ) (body room a b : List ℕ) → a ≡ recordOf kind
 put-unique kind body room a b p q = p ∙ sym q
 
 pub write-unique : (kind : ℕ) (body room : List ℕ) (a b : Written) (after after′ : List ℕ)
-    → (writeAnswerOf a ≡ writeAnswer bodyLimit kind body room) × (after ≡ writtenRoom bodyLimit kind body room)
-    → (writeAnswerOf b ≡ writeAnswer bodyLimit kind body room) × (after′ ≡ writtenRoom bodyLimit kind body room)
-    → (a ≡ b) × (after ≡ after′)
+    → Writes kind body room a after → Writes kind body room b after′ → (a ≡ b) × (after ≡ after′)
 write-unique kind body room a b after after′ p q = (write-answer-injective a b (p .0 ∙ sym (q .0)), p .1 ∙ sym (q .1))

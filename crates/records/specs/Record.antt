@@ -1,6 +1,7 @@
 -- Document 01, 'Capture records' and the rows of 'Refusal numbers' on reading and writing a record.
 -- The body limit is an argument throughout: `bodyLimit` is the one in force.
 use Prim.Native.Nat.{ℕ, _+_, _*_, _-_, _/_, _%_}
+use mathlib.Core.Path.{_≡_}
 use mathlib.Core.List.{List, [], _∷_, _++_}
 use mathlib.Core.Bool.{Bool, cond, not, _&&_, _||_}
 use lib.ListN.{length, getD, take, drop}
@@ -58,6 +59,10 @@ answerOf (Whole kind start len next) = whole kind start len next
 answerOf End = end
 answerOf (Refused why place) = refused (numberOf why) place
 
+-- the promise: `read` looked at a place of a file's bytes and answered `r`
+abbrev pub Finds : (file : List ℕ) (place : ℕ) (r : Found) → Type 0
+Finds file place r = answerOf r ≡ readAt bodyLimit file place
+
 -- "The body is the part of the file's bytes that starts after the head": len bytes from start; nothing where they run past the end
 unfoldable pub bodyOf : (s : List ℕ) (start len : ℕ) → List ℕ
 bodyOf s start len = cond (leb start (length s) && leb len (length s - start)) (take len (drop start s)) []
@@ -98,3 +103,7 @@ writtenRoom limit kind body room =
 abbrev pub writeAnswerOf : Written → WriteAnswer
 writeAnswerOf (Case.Done n) = wrote n
 writeAnswerOf (Case.Refused why) = unwritten (numberOf why) 0
+
+-- the promise: `write` was lent `room` for the record, answered `r` and left `room′`
+abbrev pub Writes : (kind : ℕ) (body room : List ℕ) (r : Written) (room′ : List ℕ) → Type 0
+Writes kind body room r room′ = (writeAnswerOf r ≡ writeAnswer bodyLimit kind body room) × (room′ ≡ writtenRoom bodyLimit kind body room)

@@ -4,7 +4,7 @@ ghost use mathlib.Core.Path.{_≡_};
 ghost use Prim.Native.Nat.{_+_, _*_, _<_, _≤_};
 ghost use mathlib.Core.List.{_++_};
 ghost use lib.ListN.{length, drop};
-ghost use Rattle.records.specs.Record.{bodyLimit, twoAt, unknownKind, notGroups, answerOf, readAt, bodyOf, wantedOf, recordOf, writeAnswerOf, writeAnswer, writtenRoom};
+ghost use Rattle.records.specs.Record.{bodyLimit, twoAt, unknownKind, notGroups, Finds, bodyOf, wantedOf, recordOf, Writes};
 
 // The most bytes of a body.
 pub const LIMIT: usize = 4092;
@@ -70,7 +70,7 @@ fn not_groups(kind: usize, len: usize) -> bool
 
 // The record whose head is at a place of s.
 pub fn read(s: &[u8], at: usize) -> Found
-    ensures { λ r. ⌜ answerOf r ≡ readAt bodyLimit (now (s .entry)) at ⌝ }
+    ensures { λ r. ⌜ Finds (now (s .entry)) at r ⌝ }
 {
     if s.len() <= at {
         return Found::End;
@@ -149,8 +149,7 @@ pub fn put(kind: usize, body: &[u8], room: &mut [u8])
 
 // Writes a record at the start of the room.
 pub fn write(kind: usize, body: &[u8], room: &mut [u8]) -> Written
-    ensures { λ r. ⌜ writeAnswerOf r ≡ writeAnswer bodyLimit kind (now (body .entry)) (now (room .entry)) ⌝ }
-    ensures { λ _. ⌜ now (room .exit) ≡ writtenRoom bodyLimit kind (now (body .entry)) (now (room .entry)) ⌝ }
+    ensures { λ r. ⌜ Writes kind (now (body .entry)) (now (room .entry)) r (now (room .exit)) ⌝ }
 {
     let n = body.len();
     if LIMIT < n {

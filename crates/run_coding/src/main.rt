@@ -1,5 +1,6 @@
-// Document 01, 'Run and compared': sending here, receiving in received.rt.
+// Document 01, 'Run and compared': sending here, receiving in received.rt, a record's body handed on to either in captured.rt.
 use libc::STDOUT_FILENO;
+use refusals::Refusal;
 use refusals::number;
 use sending::Sent;
 use sending::send;
@@ -8,6 +9,9 @@ ghost use lib.ListN.{length};
 
 // received.rt: receiving
 mod received;
+
+// captured.rt: records of a capture
+mod captured;
 
 fn print(text: &[u8]) {
     io::write_all(STDOUT_FILENO, text);
@@ -27,6 +31,14 @@ fn print_bytes(bytes: &[u8]) {
     print(b"\n");
 }
 
+fn print_refused(why: Refusal, place: usize) {
+    print(b"refused ");
+    print_number(number(why));
+    print(b" at ");
+    print_number(place as u64);
+    print(b"\n");
+}
+
 fn print_answer(answer: Sent) {
     match answer {
         Sent::Done(s) => {
@@ -38,13 +50,7 @@ fn print_answer(answer: Sent) {
             print_number(s.replaced);
             print(b"\n");
         }
-        Sent::Refused(why, place) => {
-            print(b"refused ");
-            print_number(number(why));
-            print(b" at ");
-            print_number(place as u64);
-            print(b"\n");
-        }
+        Sent::Refused(why, place) => print_refused(why, place),
     }
 }
 
@@ -183,4 +189,5 @@ fn main() {
     run_refused();
     run_largest();
     received::all();
+    captured::all();
 }

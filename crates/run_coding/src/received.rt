@@ -4,10 +4,10 @@ use crate::line_bytes;
 use crate::print;
 use crate::print_bytes;
 use crate::print_number;
+use crate::print_refused;
 use crate::vector_bytes;
 use receiving::Received;
 use receiving::receive;
-use refusals::number;
 
 fn print_flag(b: bool) {
     if b {
@@ -17,7 +17,7 @@ fn print_flag(b: bool) {
     }
 }
 
-fn print_answer(answer: Received) {
+pub fn print_answer(answer: Received) {
     match answer {
         Received::Done(s) => {
             let c = s.counts;
@@ -31,13 +31,7 @@ fn print_answer(answer: Received) {
             print_flag(s.high);
             print(b"\n");
         }
-        Received::Refused(why, place) => {
-            print(b"refused ");
-            print_number(number(why));
-            print(b" at ");
-            print_number(place as u64);
-            print(b"\n");
-        }
+        Received::Refused(why, place) => print_refused(why, place),
     }
 }
 

@@ -2,10 +2,9 @@
 use Prim.Native.Nat.{ℕ}
 use mathlib.Core.Path.{_≡_, sym, ap, _∙_}
 use mathlib.Core.List.{List}
-use lib.ListN.{length}
 use Rattle.refusals.specs.Number.{numberOf}
 use Rattle.refusals.proofs.Laws.{number-injective}
-use Rattle.sending.specs.Answer.{answerOf, sendAnswer, sendRoom}
+use Rattle.sending.specs.Answer.{answerOf, Sends}
 use Rattle.sending.specs.declared.Sent.{Sent}
 use Rattle.sending.specs.declared.Sent.the-variants.{Done, Refused}
 
@@ -24,7 +23,5 @@ answer-injective (Refused w p) (Refused w′ p′) e =
     cc
 
 pub send-unique : (vectors room : List ℕ) (start : ℕ) (a b : Sent) (after after′ : List ℕ)
-    → (answerOf a ≡ sendAnswer vectors start (length room)) × (after ≡ sendRoom vectors start room)
-    → (answerOf b ≡ sendAnswer vectors start (length room)) × (after′ ≡ sendRoom vectors start room)
-    → (a ≡ b) × (after ≡ after′)
+    → Sends vectors start room a after → Sends vectors start room b after′ → (a ≡ b) × (after ≡ after′)
 send-unique vectors room start a b after after′ p q = (answer-injective a b (p .0 ∙ sym (q .0)), p .1 ∙ sym (q .1))

@@ -2,6 +2,7 @@
 use Prim.Native.Nat.{ℕ, _*_, _/_, _%_, _^_}
 use mathlib.Core.List.{List, [], _∷_, _++_}
 use mathlib.Core.Bool.{not}
+use mathlib.Core.Path.{_≡_}
 use lib.ListN.{length, drop}
 use lib.Dec.{ltb, leb, eqb}
 use Rattle.refusals.specs.Number.{numberOf}
@@ -48,3 +49,7 @@ sendRoom bytes start room =
 abbrev pub answerOf : Sent → SendAnswer
 answerOf (Done s) = sent (s .state) (s .diagram) (s .replaced)
 answerOf (Refused why place) = refused (numberOf why) place
+
+-- the promise: `send` was lent `room` for the line, answered `r` and left `room′`
+abbrev pub Sends : (bytes : List ℕ) (start : ℕ) (room : List ℕ) (r : Sent) (room′ : List ℕ) → Type 0
+Sends bytes start room r room′ = (answerOf r ≡ sendAnswer bytes start (length room)) × (room′ ≡ sendRoom bytes start room)

@@ -20,7 +20,7 @@ ghost use Rattle.encoding.specs.Answer.{codedOf};
 ghost use Rattle.line.specs.Word.{word};
 ghost use Rattle.tables.specs.Tables.{tables};
 ghost use Rattle.sending.specs.Send.{replacedIn, vectorsIn, sentLine};
-ghost use Rattle.sending.specs.Answer.{sent, sentFor, sendAnswer, sendRoom, answerOf};
+ghost use Rattle.sending.specs.Answer.{sent, sentFor, Sends};
 ghost use Rattle.sending.specs.Sends.{Low, chosen, Steps, Groups, Fills};
 
 // What sending returns: its end state, the number of its end diagram state, and how many vectors it replaced.
@@ -219,8 +219,7 @@ fn high_control(bytes: &[u8]) -> usize
 
 // Sends a list of vectors from a start state below 2^58. Its line goes to the start of the lent room; a refusal changes nothing.
 pub fn send(vectors: &[u8], start: u64, line: &mut [u8]) -> Sent
-    ensures { λ r. ⌜ answerOf r ≡ sendAnswer (now (vectors .entry)) start (length (now (line .entry))) ⌝ }
-    ensures { λ r. ⌜ now (line .exit) ≡ sendRoom (now (vectors .entry)) start (now (line .entry)) ⌝ }
+    ensures { λ r. ⌜ Sends (now (vectors .entry)) start (now (line .entry)) r (now (line .exit)) ⌝ }
 {
     let n = vectors.len();
     if 1000000 < n {

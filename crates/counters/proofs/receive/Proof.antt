@@ -41,11 +41,10 @@ use denote.Triple.Table.{entered, cited}
 use denote.Triple.Walked.{Stays, stay-ref, stay-none-slice, gave-slice, walkOf, AllGo, goes-ref, goes-none-slice, goes-gave-slice, Walks, ends-at, walked, walk-meets}
 use denote.Triple.Clauses.{Lasts, ensured, lasts}
 use denote.Exit.{yes}
-use Rattle.receiving.specs.Answer.{answerOf, receiveAnswer, receiveRoom}
 use Rattle.receiving.specs.declared.Received.{Received}
 use Rattle.receiving.proofs.Received as E
 use Rattle.receiving.proofs.Received.Laws as E′
-use Rattle.counters.specs.Counters.{countersAfter}
+use Rattle.counters.specs.Counters.{ReceivesCounting}
 use Rattle.counters.specs.declared.Counters.{Counters}
 use Rattle.counters.specs.declared.Counted.{Counted}
 use Rattle.counters.proofs.Counters as T
@@ -115,15 +114,9 @@ module _ {M : Type 1} (𝓤 : URA M) (H : Heap 𝓤) (A : Atoms 𝓤) (W : Given
   abbrev Lent : Fml
   Lent = MutSlice (named 1) κ′ u8 .own room (vr ∷ [])
 
-  -- what is said of the answer, of the room at last, and of the counters
-  abbrev Answered : Received → Type 0
-  Answered r = answerOf r ≡ receiveAnswer xs (length ys)
-
-  abbrev Filled : List ℕ → Type 0
-  Filled zs = zs ≡ receiveRoom xs ys
-
-  abbrev Updated : Counters → Type 0
-  Updated c = c ≡ countersAfter h (receiveAnswer xs (length ys))
+  -- what the call promised of the answer, of the room at last, and of the counters
+  abbrev Met : Counted → List ℕ → Type 0
+  Met r zs = ReceivesCounting xs ys h (r .answer) zs (r .counters)
 
   -- what `receive_by_value`'s triple binds outside
   abbrev Passed : Type 0
@@ -142,10 +135,10 @@ module _ {M : Type 1} (𝓤 : URA M) (H : Heap 𝓤) (A : Atoms 𝓤) (W : Given
       nothing ! $ move ! (5 ∷ 0 ∷ []) $ fjoin ! $ move ! (4 ∷ 0 ∷ []) $ fjoin ! $ move ! (3 ∷ 0 ∷ []) $ fjoin ! $
       nothing ! $ move ! (3 ∷ 0 ∷ []) $ join ! $ move ! (2 ∷ 0 ∷ []) $ join ! $ join ! $ frame ! $ done !
 
-  -- the walk's end: what is owned then, with the three facts of the call, is what the contract says
-  exits : (r : Counted) (zs : List ℕ) → length zs ≡ length ys → Answered (r .answer) → Filled zs → Updated (r .counters)
+  -- the walk's end: what is owned then, with what the call promised, is what the contract says
+  exits : (r : Counted) (zs : List ℕ) → length zs ≡ length ys → Met r zs
       → ent 𝓤 (⋆ 𝓤 H A (‵ (fobs γ (T.the-row .coded .code (r .counters))) ∷ ‵ (fbor κ″ (Body (mem T.the-row) b o γ)) ∷ ‵ (flft κ″ q″) ∷ ‵ (E.the-row .own (r .answer) (machA (r .answer) ∷ [])) ∷ (‵ (flft κ q) ⊛ ‵ (flft κ′ q′) ⊛ ‵ ftrue) ∷ ‵ (finally u8 γ′ zs) ∷ ‵ Line ∷ [])) (Post (machA (r .answer)))
-  exits r zs l answered filled updated =
+  exits r zs l met =
       qed W (‵ (fobs γ (T.the-row .coded .code (r .counters))) ∷ ‵ (fbor κ″ (Body (mem T.the-row) b o γ)) ∷ ‵ (flft κ″ q″) ∷ ‵ (E.the-row .own (r .answer) (machA (r .answer) ∷ [])) ∷ (‵ (flft κ q) ⊛ ‵ (flft κ′ q′) ⊛ ‵ ftrue) ∷ ‵ (finally u8 γ′ zs) ∷ ‵ Line ∷ []) ∵
       suffices ! _ (ends-at 𝓤 H A receive.ended stayed (receive.clauses 𝓤 H A at-mem run) W (((κ, (κ′, (κ″, tt))), (q, (q′, (q″, tt))), tt, a, vals), tt) (machA (r .answer)) (r .answer) (tt, (zs, (r .counters, tt))) (tt, (l, (tt, tt)))) $
       -- what is had of the parameters
@@ -153,8 +146,7 @@ module _ {M : Type 1} (𝓤 : URA M) (H : Heap 𝓤) (A : Atoms 𝓤) (W : Given
       -- the three tokens
       move ! (3 ∷ []) $ split3 ! $ move ! (4 ∷ 2 ∷ []) $ join ! $ move ! (2 ∷ 0 ∷ []) $ join ! $ move ! (1 ∷ 0 ∷ []) $ join ! $
       -- [the tokens; what is had; the result]
-      group ! 3 $ frame ! $ use0 W (raw (fact 𝓤 (Updated (r .counters)))) (factI 𝓤 (Updated (r .counters)) (emp 𝓤) updated) $
-      use0 W (raw (fact 𝓤 (Filled zs))) (factI 𝓤 (Filled zs) (emp 𝓤) filled) $ use0 W (raw (fact 𝓤 (Answered (r .answer)))) (factI 𝓤 (Answered (r .answer)) (emp 𝓤) answered) $ done !
+      group ! 3 $ frame ! $ use0 W (raw (fact 𝓤 (Met r zs))) (factI 𝓤 (Met r zs) (emp 𝓤) met) $ done !
 
   module _ (C : Calls 𝓤 H) (Λ : Loops 𝓤 H) (fm : FmC 𝓤 H (W .laws) C) (known : Triple 𝓤 (C #counters·receive-by-value) (ByValue 𝓤 H A at-mem run)) where
     -- the walk, from the entry to the return
@@ -179,8 +171,8 @@ module _ {M : Type 1} (𝓤 : URA M) (H : Heap 𝓤) (A : Atoms 𝓤) (W : Given
         calls-at ! fm (ByValue 𝓤 H A at-mem run) known to (and-then ! (load ! (from ! (stop !)) (look ! 19 refl)) (and-then ! (load ! (from ! (stop !)) (look ! 7 refl)) (and-then ! (load ! (from ! (stop !)) (look ! 5 refl)) (no-more !)))) (λ w.
         use1 W (later (some (λ (r : Counted). ((‵ (flft κ q) ⊛ ‵ (flft κ′ q′) ⊛ ‵ ftrue) ⊛ ‵ (D.the-row .own r (w ∷ []))) ⊛ raw (ensured 𝓤 H A by-value.ended (by-value.clauses 𝓤 H A at-mem run) (κ, (κ′, tt)) passed tt r)))) (id⊢ 𝓤 _) $ await ! tt $ pick ! (λ r.
         split ! $ move ! (1 ∷ []) $
-        use1 W (some (λ (zs : Lasts by-value.ended (κ, (κ′, tt)) passed). ‵ (lasts by-value.ended (κ, (κ′, tt)) passed zs) ⊛ raw (fact 𝓤 (Answered (r .answer))) ⊛ raw (fact 𝓤 (Filled (zs .1 .0))) ⊛ raw (fact 𝓤 (Updated (r .counters))))) (id⊢ 𝓤 _) $ pick ! (λ zs.
-        split3 ! $ move ! (1 ∷ []) $ heard ! (Answered (r .answer)) (λ answered. move ! (1 ∷ []) $ split ! $ heard ! (Filled (zs .1 .0)) (λ filled. heard ! (Updated (r .counters)) (λ updated.
+        use1 W (some (λ (zs : Lasts by-value.ended (κ, (κ′, tt)) passed). ‵ (lasts by-value.ended (κ, (κ′, tt)) passed zs) ⊛ raw (fact 𝓤 (Met r (zs .1 .0))))) (id⊢ 𝓤 _) $ pick ! (λ zs.
+        split ! $ move ! (1 ∷ []) $ heard ! (Met r (zs .1 .0)) (λ met.
         fsplit ! $ drop ! $ fsplit ! $ fsplit ! $ move ! (1 ∷ []) $ feqL ! (λ l. move ! (2 ∷ []) $ split ! $ move ! (1 ∷ []) $
         -- [what the result owns; the tokens; the last list; true; the cell; the open borrow; obs; auth; _8; …; _0; …; the line again]
         peeks ! D.the-row (Is D.the-row) (shows 𝓤 H A D.the-row) r (w ∷ []) (λ ir.
@@ -197,7 +189,7 @@ module _ {M : Type 1} (𝓤 : URA M) (H : Heap 𝓤) (A : Atoms 𝓤) (W : Given
         -- [obs; the borrow; the third token; what the answer owns; true; the tokens; the last list; true; _8; …; _0; …; the line again]
         returns ! (look ! 24 refl) $ forget ! 8 refl $ forget ! 10 refl $ forget ! 12 refl $ forget ! 14 refl $ forget ! 16 refl $ forget ! 18 refl $ forget ! 20 refl $ forget ! 22 refl $ forget ! 24 refl $
         move ! (24 ∷ 25 ∷ []) $ free1 ! $ move ! (22 ∷ 23 ∷ []) $ free1 ! $ move ! (20 ∷ 21 ∷ []) $ free1 ! $ move ! (18 ∷ 19 ∷ []) $ free1 ! $ move ! (16 ∷ 17 ∷ []) $ free1 ! $ move ! (14 ∷ 15 ∷ []) $ free1 ! $ move ! (12 ∷ 13 ∷ []) $ free1 ! $ move ! (10 ∷ 11 ∷ []) $ free1 ! $ move ! (8 ∷ 9 ∷ []) $ free1 ! $ free0 ! $
-        keep ! (0 ∷ 1 ∷ 2 ∷ 3 ∷ 5 ∷ 6 ∷ 8 ∷ []) $ by ! (exits r (zs .1 .0) l answered filled updated)))))))))))))))))))))))
+        keep ! (0 ∷ 1 ∷ 2 ∷ 3 ∷ 5 ∷ 6 ∷ 8 ∷ []) $ by ! (exits r (zs .1 .0) l met)))))))))))))))))))))
 
 module _ {M : Type 1} (𝓤 : URA M) (H : Heap 𝓤) (A : Atoms 𝓤) (W : Given 𝓤 H A) (at-mem : Memory → SProp 𝓤) (run : Routine → Fun 𝓤) where
   -- the walk at every choice of lifetimes, shares and arguments

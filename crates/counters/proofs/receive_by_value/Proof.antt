@@ -37,11 +37,11 @@ same-length c = search needs
 
 returns : tie.Need-returns
 returns c = (
-  ap answerOf (sym (c .before .before .before .before .answer .given .1)) ∙ c .before .before .before .before .before .before .before .before .receive .ensures .0,
   (
+    ap answerOf (sym (c .before .before .before .before .answer .given .1)) ∙ c .before .before .before .before .before .before .before .before .receive .ensures .0,
     c .before .before .before .before .before .before .before .before .receive .ensures .1,
-    summed (c .before .before .before .before .before .before .before .before .before .before .before .before .args .c) (c .add-counts .result) (c .before .before .before .before .before .before .before .before .receive .result) _ _ (c .before .before .before .before .answer .given .1) (c .before .before .before .before .before .before .before .before .receive .ensures .0) (c .add-counts .ensures),
   ),
+  summed (c .before .before .before .before .before .before .before .before .before .before .before .before .args .c) (c .add-counts .result) (c .before .before .before .before .before .before .before .before .receive .result) _ _ (c .before .before .before .before .answer .given .1) (c .before .before .before .before .before .before .before .before .receive .ensures .0) (c .add-counts .ensures),
 )
 
 same-length-2 : tie.Need-same-length-2
@@ -49,11 +49,8 @@ same-length-2 c = search needs
 
 returns-2 : tie.Need-returns-2
 returns-2 c = (
-  c .before .before .before .before .receive .ensures .0,
-  (
-    c .before .before .before .before .receive .ensures .1,
-    kept (c .before .before .before .before .before .before .before .before .args .c) (c .before .before .before .before .receive .result) _ _ _ (c .enum-told .given .1) (c .before .before .before .before .receive .ensures .0),
-  ),
+  c .before .before .before .before .receive .ensures,
+  kept (c .before .before .before .before .before .before .before .before .args .c) (c .before .before .before .before .receive .result) _ _ _ (c .enum-told .given .1) (c .before .before .before .before .receive .ensures .0),
 )
 
 pub receive-by-value-spec : {M : Type 1} → statement M

@@ -27,7 +27,7 @@ returns c =
     let t =
     shortly (now (a .line)) (now (a .vectors)) (now (a .summary)) (now (a .counters)) (c .receive-short .result) l
     (c .receive-short .ensures (length (now (a .vectors))) (length (now (a .summary))) (length (now (a .counters))) l) in
-    (t .0, (t .1, (c .before .before .before .clear .ensures ∙ t .2, t .3)))
+    (t .0, t .1, c .before .before .before .clear .ensures ∙ t .2, t .3)
 
 load-counters-requires : tie.Need-load-counters-requires
 load-counters-requires c κs =
@@ -59,7 +59,7 @@ clear-requires-2 c κs = search needs
 refusal-requires : tie.Need-refusal-requires
 refusal-requires c κs =
     let a = c .before .before .before .before .before .before .before .before .before .before .before .before .before .before .before .before .before .before .before .before .args in
-    small (now (a .line)) (length (now (a .vectors))) _ _ (sym (ap answerOf (c .before .before .before .before .before .answer2 .given .1)) ∙ c .before .before .before .before .before .before .before .before .before .before .receive-by-value .ensures .0)
+    small (now (a .line)) (length (now (a .vectors))) _ _ (sym (ap answerOf (c .before .before .before .before .before .answer2 .given .1)) ∙ c .before .before .before .before .before .before .before .before .before .before .receive-by-value .ensures .0 .0)
 
 same-length-2 : tie.Need-same-length-2
 same-length-2 c = search needs
@@ -73,11 +73,9 @@ same-length-4 c = search needs
 returns-2 : tie.Need-returns-2
 returns-2 c =
     let a = c .before .before .before .before .before .before .before .before .before .before .before .before .before .before .before .before .before .before .before .before .before .before .before .before .args in
-    let t =
     received-so (now (a .line)) (now (a .vectors)) (now (a .summary)) (now (a .counters)) (sym (c .before .before .before .before .before .before .before .before .before .before .before .before .before .before .before .before .before .before .before .short-slice .ensures) ∙ c .before .before .before .before .before .before .before .before .before .before .before .before .before .before .before .before .before .before .if1 .left) (c .before .before .before .before .before .before .before .before .before .answer .given .0 .0) (c .before .before .before .before .before .before .before .before .before .before .before .before .before .before .before .load-counters .result) (c .before .before .before .before .before .before .before .before .before .before .before .before .before .before .receive-by-value .result .counters) _ _ _
-    (sym (ap answerOf (c .before .before .before .before .before .before .before .before .before .answer .given .1)) ∙ c .before .before .before .before .before .before .before .before .before .before .before .before .before .before .receive-by-value .ensures .0) (c .before .before .before .before .before .before .before .before .before .before .before .before .before .before .receive-by-value .ensures .1 .0) (c .before .before .before .before .before .before .put-summary .ensures)
-    (c .before .before .before .before .before .before .before .before .before .before .before .before .before .before .before .load-counters .ensures) (c .before .before .before .before .before .before .before .before .before .before .before .before .before .before .receive-by-value .ensures .1 .1) (c .before .before .store-counters .ensures) in
-    (t .0, (t .1, (t .2, t .3)))
+    (sym (ap answerOf (c .before .before .before .before .before .before .before .before .before .answer .given .1)) ∙ c .before .before .before .before .before .before .before .before .before .before .before .before .before .before .receive-by-value .ensures .0 .0) (c .before .before .before .before .before .before .before .before .before .before .before .before .before .before .receive-by-value .ensures .0 .1) (c .before .before .before .before .before .before .put-summary .ensures)
+    (c .before .before .before .before .before .before .before .before .before .before .before .before .before .before .before .load-counters .ensures) (c .before .before .before .before .before .before .before .before .before .before .before .before .before .before .receive-by-value .ensures .1) (c .before .before .store-counters .ensures)
 
 same-length-5 : tie.Need-same-length-5
 same-length-5 c = search needs
@@ -93,8 +91,8 @@ returns-3 c =
     let a = c .before .before .before .before .before .before .before .before .before .before .before .before .before .before .before .before .before .before .before .before .before .args in
     let t =
     refused-so (now (a .line)) (now (a .vectors)) (now (a .summary)) (now (a .counters)) (sym (c .before .before .before .before .before .before .before .before .before .before .before .before .before .before .before .before .short-slice .ensures) ∙ c .before .before .before .before .before .before .before .before .before .before .before .before .before .before .before .if1 .left) _ _ _
-    (sym (ap answerOf (c .before .before .before .before .before .before .answer2 .given .1)) ∙ c .before .before .before .before .before .before .before .before .before .before .before .receive-by-value .ensures .0) (c .before .before .before .before .before .before .before .before .before .before .before .receive-by-value .ensures .1 .0) in
-    (c .refusal .ensures ∙ t .0, (t .1, (c .before .before .before .clear2 .ensures ∙ t .2, t .3)))
+    (sym (ap answerOf (c .before .before .before .before .before .before .answer2 .given .1)) ∙ c .before .before .before .before .before .before .before .before .before .before .before .receive-by-value .ensures .0 .0) (c .before .before .before .before .before .before .before .before .before .before .before .receive-by-value .ensures .0 .1) in
+    (c .refusal .ensures ∙ t .0, t .1, c .before .before .before .clear2 .ensures ∙ t .2, t .3)
 
 pub holzmotte-receive-spec : {M : Type 1} → statement M
 holzmotte-receive-spec =
