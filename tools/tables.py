@@ -67,6 +67,7 @@ for kind, lead, y, fields in ROWS:
     high.append(sum((found[p + 4][0] != 'd') << p for p in range(4)))
 flags = [a + 16 * b for a, b in zip(low, high)]
 parts = [('the octets of ' + name, [octet(s, v) for v in range(2 ** WIDTH[s])]) for s, name in zip(SLOTS, NAMES)]
+notes = {'the octets of ' + name: note for name, note in zip(NAMES, ['', ' // control code %02x', ' // in type 1e control code %02x', ' // ordered set code %x', '', '']) if note}
 parts += [('for each character of each row: the place of its field', shift),
           ('the mask of its field', mask),
           ('where the octets of its slot begin', base),
@@ -94,7 +95,7 @@ print('pub const TABLES: [u16; %d] = [' % sum(len(values) for _, values in parts
 place = 0
 for name, values in parts:
     print('    // %d: %s' % (place, name))
-    for value in values:
-        print('    %d,' % value)
+    for i, value in enumerate(values):
+        print('    %d,' % value + (notes[name] % i if name in notes else ''))
     place += len(values)
 print('];')

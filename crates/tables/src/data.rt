@@ -520,280 +520,280 @@ pub const TABLES: [u16; 3170] = [
     254,
     255,
     // 256: the octets of control characters
-    7,
-    256,
-    256,
-    256,
-    256,
-    256,
-    256,
-    256,
-    256,
-    256,
-    256,
-    256,
-    256,
-    256,
-    256,
-    256,
-    256,
-    256,
-    256,
-    256,
-    256,
-    256,
-    256,
-    256,
-    256,
-    256,
-    256,
-    256,
-    256,
-    256,
-    254,
-    256,
-    256,
-    256,
-    256,
-    256,
-    256,
-    256,
-    256,
-    256,
-    256,
-    256,
-    256,
-    256,
-    256,
-    28,
-    256,
-    256,
-    256,
-    256,
-    256,
-    60,
-    256,
-    256,
-    256,
-    256,
-    256,
-    256,
-    256,
-    256,
-    256,
-    256,
-    256,
-    256,
-    256,
-    256,
-    256,
-    256,
-    256,
-    256,
-    256,
-    256,
-    256,
-    256,
-    256,
-    124,
-    256,
-    256,
-    256,
-    256,
-    256,
-    256,
-    256,
-    256,
-    256,
-    188,
-    256,
-    256,
-    256,
-    256,
-    256,
-    256,
-    256,
-    256,
-    256,
-    256,
-    256,
-    256,
-    256,
-    256,
-    256,
-    256,
-    220,
-    256,
-    256,
-    256,
-    256,
-    256,
-    256,
-    256,
-    256,
-    256,
-    256,
-    256,
-    256,
-    256,
-    256,
-    256,
-    256,
-    256,
-    247,
-    256,
-    256,
-    256,
-    256,
-    256,
-    256,
-    256,
+    7, // control code 00
+    256, // control code 01
+    256, // control code 02
+    256, // control code 03
+    256, // control code 04
+    256, // control code 05
+    256, // control code 06
+    256, // control code 07
+    256, // control code 08
+    256, // control code 09
+    256, // control code 0a
+    256, // control code 0b
+    256, // control code 0c
+    256, // control code 0d
+    256, // control code 0e
+    256, // control code 0f
+    256, // control code 10
+    256, // control code 11
+    256, // control code 12
+    256, // control code 13
+    256, // control code 14
+    256, // control code 15
+    256, // control code 16
+    256, // control code 17
+    256, // control code 18
+    256, // control code 19
+    256, // control code 1a
+    256, // control code 1b
+    256, // control code 1c
+    256, // control code 1d
+    254, // control code 1e
+    256, // control code 1f
+    256, // control code 20
+    256, // control code 21
+    256, // control code 22
+    256, // control code 23
+    256, // control code 24
+    256, // control code 25
+    256, // control code 26
+    256, // control code 27
+    256, // control code 28
+    256, // control code 29
+    256, // control code 2a
+    256, // control code 2b
+    256, // control code 2c
+    28, // control code 2d
+    256, // control code 2e
+    256, // control code 2f
+    256, // control code 30
+    256, // control code 31
+    256, // control code 32
+    60, // control code 33
+    256, // control code 34
+    256, // control code 35
+    256, // control code 36
+    256, // control code 37
+    256, // control code 38
+    256, // control code 39
+    256, // control code 3a
+    256, // control code 3b
+    256, // control code 3c
+    256, // control code 3d
+    256, // control code 3e
+    256, // control code 3f
+    256, // control code 40
+    256, // control code 41
+    256, // control code 42
+    256, // control code 43
+    256, // control code 44
+    256, // control code 45
+    256, // control code 46
+    256, // control code 47
+    256, // control code 48
+    256, // control code 49
+    256, // control code 4a
+    124, // control code 4b
+    256, // control code 4c
+    256, // control code 4d
+    256, // control code 4e
+    256, // control code 4f
+    256, // control code 50
+    256, // control code 51
+    256, // control code 52
+    256, // control code 53
+    256, // control code 54
+    188, // control code 55
+    256, // control code 56
+    256, // control code 57
+    256, // control code 58
+    256, // control code 59
+    256, // control code 5a
+    256, // control code 5b
+    256, // control code 5c
+    256, // control code 5d
+    256, // control code 5e
+    256, // control code 5f
+    256, // control code 60
+    256, // control code 61
+    256, // control code 62
+    256, // control code 63
+    256, // control code 64
+    256, // control code 65
+    220, // control code 66
+    256, // control code 67
+    256, // control code 68
+    256, // control code 69
+    256, // control code 6a
+    256, // control code 6b
+    256, // control code 6c
+    256, // control code 6d
+    256, // control code 6e
+    256, // control code 6f
+    256, // control code 70
+    256, // control code 71
+    256, // control code 72
+    256, // control code 73
+    256, // control code 74
+    256, // control code 75
+    256, // control code 76
+    256, // control code 77
+    247, // control code 78
+    256, // control code 79
+    256, // control code 7a
+    256, // control code 7b
+    256, // control code 7c
+    256, // control code 7d
+    256, // control code 7e
+    256, // control code 7f
     // 384: the octets of control characters other than 1e
-    7,
-    256,
-    256,
-    256,
-    256,
-    256,
-    256,
-    256,
-    256,
-    256,
-    256,
-    256,
-    256,
-    256,
-    256,
-    256,
-    256,
-    256,
-    256,
-    256,
-    256,
-    256,
-    256,
-    256,
-    256,
-    256,
-    256,
-    256,
-    256,
-    256,
-    256,
-    256,
-    256,
-    256,
-    256,
-    256,
-    256,
-    256,
-    256,
-    256,
-    256,
-    256,
-    256,
-    256,
-    256,
-    28,
-    256,
-    256,
-    256,
-    256,
-    256,
-    60,
-    256,
-    256,
-    256,
-    256,
-    256,
-    256,
-    256,
-    256,
-    256,
-    256,
-    256,
-    256,
-    256,
-    256,
-    256,
-    256,
-    256,
-    256,
-    256,
-    256,
-    256,
-    256,
-    256,
-    124,
-    256,
-    256,
-    256,
-    256,
-    256,
-    256,
-    256,
-    256,
-    256,
-    188,
-    256,
-    256,
-    256,
-    256,
-    256,
-    256,
-    256,
-    256,
-    256,
-    256,
-    256,
-    256,
-    256,
-    256,
-    256,
-    256,
-    220,
-    256,
-    256,
-    256,
-    256,
-    256,
-    256,
-    256,
-    256,
-    256,
-    256,
-    256,
-    256,
-    256,
-    256,
-    256,
-    256,
-    256,
-    247,
-    256,
-    256,
-    256,
-    256,
-    256,
-    256,
-    256,
+    7, // in type 1e control code 00
+    256, // in type 1e control code 01
+    256, // in type 1e control code 02
+    256, // in type 1e control code 03
+    256, // in type 1e control code 04
+    256, // in type 1e control code 05
+    256, // in type 1e control code 06
+    256, // in type 1e control code 07
+    256, // in type 1e control code 08
+    256, // in type 1e control code 09
+    256, // in type 1e control code 0a
+    256, // in type 1e control code 0b
+    256, // in type 1e control code 0c
+    256, // in type 1e control code 0d
+    256, // in type 1e control code 0e
+    256, // in type 1e control code 0f
+    256, // in type 1e control code 10
+    256, // in type 1e control code 11
+    256, // in type 1e control code 12
+    256, // in type 1e control code 13
+    256, // in type 1e control code 14
+    256, // in type 1e control code 15
+    256, // in type 1e control code 16
+    256, // in type 1e control code 17
+    256, // in type 1e control code 18
+    256, // in type 1e control code 19
+    256, // in type 1e control code 1a
+    256, // in type 1e control code 1b
+    256, // in type 1e control code 1c
+    256, // in type 1e control code 1d
+    256, // in type 1e control code 1e
+    256, // in type 1e control code 1f
+    256, // in type 1e control code 20
+    256, // in type 1e control code 21
+    256, // in type 1e control code 22
+    256, // in type 1e control code 23
+    256, // in type 1e control code 24
+    256, // in type 1e control code 25
+    256, // in type 1e control code 26
+    256, // in type 1e control code 27
+    256, // in type 1e control code 28
+    256, // in type 1e control code 29
+    256, // in type 1e control code 2a
+    256, // in type 1e control code 2b
+    256, // in type 1e control code 2c
+    28, // in type 1e control code 2d
+    256, // in type 1e control code 2e
+    256, // in type 1e control code 2f
+    256, // in type 1e control code 30
+    256, // in type 1e control code 31
+    256, // in type 1e control code 32
+    60, // in type 1e control code 33
+    256, // in type 1e control code 34
+    256, // in type 1e control code 35
+    256, // in type 1e control code 36
+    256, // in type 1e control code 37
+    256, // in type 1e control code 38
+    256, // in type 1e control code 39
+    256, // in type 1e control code 3a
+    256, // in type 1e control code 3b
+    256, // in type 1e control code 3c
+    256, // in type 1e control code 3d
+    256, // in type 1e control code 3e
+    256, // in type 1e control code 3f
+    256, // in type 1e control code 40
+    256, // in type 1e control code 41
+    256, // in type 1e control code 42
+    256, // in type 1e control code 43
+    256, // in type 1e control code 44
+    256, // in type 1e control code 45
+    256, // in type 1e control code 46
+    256, // in type 1e control code 47
+    256, // in type 1e control code 48
+    256, // in type 1e control code 49
+    256, // in type 1e control code 4a
+    124, // in type 1e control code 4b
+    256, // in type 1e control code 4c
+    256, // in type 1e control code 4d
+    256, // in type 1e control code 4e
+    256, // in type 1e control code 4f
+    256, // in type 1e control code 50
+    256, // in type 1e control code 51
+    256, // in type 1e control code 52
+    256, // in type 1e control code 53
+    256, // in type 1e control code 54
+    188, // in type 1e control code 55
+    256, // in type 1e control code 56
+    256, // in type 1e control code 57
+    256, // in type 1e control code 58
+    256, // in type 1e control code 59
+    256, // in type 1e control code 5a
+    256, // in type 1e control code 5b
+    256, // in type 1e control code 5c
+    256, // in type 1e control code 5d
+    256, // in type 1e control code 5e
+    256, // in type 1e control code 5f
+    256, // in type 1e control code 60
+    256, // in type 1e control code 61
+    256, // in type 1e control code 62
+    256, // in type 1e control code 63
+    256, // in type 1e control code 64
+    256, // in type 1e control code 65
+    220, // in type 1e control code 66
+    256, // in type 1e control code 67
+    256, // in type 1e control code 68
+    256, // in type 1e control code 69
+    256, // in type 1e control code 6a
+    256, // in type 1e control code 6b
+    256, // in type 1e control code 6c
+    256, // in type 1e control code 6d
+    256, // in type 1e control code 6e
+    256, // in type 1e control code 6f
+    256, // in type 1e control code 70
+    256, // in type 1e control code 71
+    256, // in type 1e control code 72
+    256, // in type 1e control code 73
+    256, // in type 1e control code 74
+    256, // in type 1e control code 75
+    256, // in type 1e control code 76
+    256, // in type 1e control code 77
+    247, // in type 1e control code 78
+    256, // in type 1e control code 79
+    256, // in type 1e control code 7a
+    256, // in type 1e control code 7b
+    256, // in type 1e control code 7c
+    256, // in type 1e control code 7d
+    256, // in type 1e control code 7e
+    256, // in type 1e control code 7f
     // 512: the octets of ordered sets
-    156,
-    512,
-    512,
-    512,
-    512,
-    512,
-    512,
-    512,
-    512,
-    512,
-    512,
-    512,
-    512,
-    512,
-    512,
-    92,
+    156, // ordered set code 0
+    512, // ordered set code 1
+    512, // ordered set code 2
+    512, // ordered set code 3
+    512, // ordered set code 4
+    512, // ordered set code 5
+    512, // ordered set code 6
+    512, // ordered set code 7
+    512, // ordered set code 8
+    512, // ordered set code 9
+    512, // ordered set code a
+    512, // ordered set code b
+    512, // ordered set code c
+    512, // ordered set code d
+    512, // ordered set code e
+    92, // ordered set code f
     // 528: the octets of Start
     251,
     // 529: the octets of Terminate

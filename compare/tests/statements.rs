@@ -1,0 +1,125 @@
+//! The demands claim no more than is so: for each edit of one of their statements (crates/demands/must-fail, crates/damage/must-fail) a run of
+//! the library for which the edited statement is untrue. The tests have the edits' names.
+use compare::library::{receive, received, send, sent, words, COUNTERS_BYTES, RECEIVE_SUMMARY_BYTES};
+use compare::lists::{end, idle, start};
+use compare::reference::vector::{characters, vector, Character, Vector, ERROR, LOCAL_FAULT};
+
+/// Eight data octets.
+fn data() -> Vector {
+    vector(&std::array::from_fn(|i| Character::Data(i as u8)))
+}
+
+/// This many idle vectors, these, and idles up to a multiple of four.
+fn list(idles: usize, vectors: &[Vector]) -> Vec<Vector> {
+    let mut list = vec![idle(); idles];
+    list.extend(vectors);
+    list.resize(list.len().next_multiple_of(4), idle());
+    list
+}
+
+/// What comes back of the line sent for a list from state 0, these of its bits flipped.
+fn returned(list: &[Vector], flips: &[usize]) -> Vec<Vector> {
+    let (mut line, _) = sent(&list.concat(), 0);
+    flips.iter().for_each(|bit| line[bit / 8] ^= 1 << (bit % 8));
+    received(&line).0.chunks(10).map(|vector| vector.try_into().unwrap()).collect()
+}
+
+/// The control flags and control characters (among them the codes of ordered sets) of a vector.
+fn control(vector: &Vector) -> [Option<u8>; 8] {
+    characters(vector).map(|character| match character {
+        Character::Control(octet) => Some(octet),
+        Character::Data(_) => None,
+    })
+}
+
+// ---- crates/demands
+
+#[test]
+fn error_is_legal() {
+    let sent = list(64, &[data()]);
+    assert_eq!(returned(&sent, &[])[64], ERROR);
+}
+
+#[test]
+fn frame_begun_before_lock() {
+    let sent = list(62, &[start(), data(), end()]);
+    assert_eq!(returned(&sent, &[])[62..65], [LOCAL_FAULT, ERROR, end()]);
+}
+
+#[test]
+fn one_slip() {
+    let (line, _) = sent(&idle().repeat(64), 0);
+    assert_eq!(words(&received(&line).1)[1], 0);
+}
+
+#[test]
+fn refusal_without_place() {
+    let mut vectors = idle().repeat(4);
+    vectors[15] = 16;
+    assert_eq!(send(&vectors, 0, &mut [0; 33], &mut [0; 24]), 5 + 256 * 15);
+}
+
+#[test]
+fn room_cut() {
+    let mut room = [7; 11];
+    assert_eq!(receive(&[0; 9], &mut room, &mut [0; RECEIVE_SUMMARY_BYTES], &mut [0; COUNTERS_BYTES]), 0);
+    assert_eq!(room[..10], LOCAL_FAULT);
+    assert_eq!(room[10], 7);
+}
+
+#[test]
+fn sixty_two_faults() {
+    assert_eq!(returned(&list(64, &[]), &[])[62..], [LOCAL_FAULT, idle()]);
+}
+
+#[test]
+fn sixty_vectors() {
+    assert_eq!(returned(&list(60, &[]), &[]), [LOCAL_FAULT; 60]);
+}
+
+#[test]
+fn summary_of_ones() {
+    let mut summary = [1; 24];
+    assert_eq!(send(&[0; 39], 0, &mut [], &mut summary), 2);
+    assert_eq!(summary, [0; 24]);
+}
+
+// ---- crates/damage
+
+/// One header bit of block 63: the receiver does not lock, and an idle comes back as a Local Fault.
+#[test]
+fn flip_in_block_63() {
+    assert_eq!(returned(&list(68, &[]), &[63 * 66])[63..67], [LOCAL_FAULT; 4]);
+}
+
+/// Four bits turn type 1e into 2d. The first of them shows again in the code of character 4, which is that of f7: it then reads as an ordered
+/// set with its data octets.
+#[test]
+fn four_flips() {
+    let sent = vector(&std::array::from_fn(|i| Character::Control(if i == 4 { 0xf7 } else { 0x07 })));
+    let flips = [0, 1, 4, 5].map(|bit| 64 * 66 + 2 + bit);
+    let answer = returned(&list(64, &[sent]), &flips)[64];
+    assert_eq!(control(&answer), [Some(0x07), Some(0x07), Some(0x07), Some(0x07), Some(0x9c), None, None, None]);
+}
+
+/// A flipped payload bit shows 39 places after it and not 38.
+#[test]
+fn seen_38_before() {
+    let sent = list(64, &[start(), data(), data(), end()]);
+    let answer = returned(&sent, &[65 * 66 + 2])[65];
+    let changed = |bit: usize| (characters(&answer)[bit / 8], characters(&data())[bit / 8]);
+    let differs = |bit: usize| match changed(bit) {
+        (Character::Data(a), Character::Data(b)) => (a ^ b) >> (bit % 8) & 1 == 1,
+        _ => panic!("no data"),
+    };
+    assert_eq!((0..64).filter(|bit| differs(*bit)).collect::<Vec<_>>(), [0, 39, 58]);
+}
+
+/// Both header bits of the block that ends a frame: it comes back as data.
+#[test]
+fn whole_header() {
+    let sent = list(64, &[start(), end()]);
+    let answer = returned(&sent, &[65 * 66, 65 * 66 + 1])[65];
+    assert_eq!(control(&answer), [None; 8]);
+    assert_ne!(control(&answer), control(&end()));
+}
