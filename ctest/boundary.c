@@ -1,9 +1,10 @@
-/* The library from C, by its header alone. Each lent buffer ends at a page that cannot be touched, so that one byte too far is a
- * crash. What the bytes should be is in the comparison with the second program; here it is what may be touched, what is refused and
- * what stays as it was. */
+/* The library from C, by its header alone. Every group runs twice: each lent buffer ends at a page that cannot be touched, then each begins
+ * right behind one, so that one byte too far on either side is a crash. What the bytes should be is in the comparison with the second
+ * program; here it is what may be touched, what is refused, what stays as it was, and what the header says in numbers and examples. */
 #define _DEFAULT_SOURCE
 #include "holzmotte.h"
 
+#include <pthread.h>
 #include <stdio.h>
 #include <stdlib.h>
 #include <string.h>
@@ -15,24 +16,38 @@ static int checks, wrong;   /* in the group at hand */
 
 #define CHECK(e) (checks++, (e) ? (void)0 : (void)(wrong++, printf("FAILED, line %d: %s\n", __LINE__, #e)))
 
+/* The mappings of the group at hand. */
+static struct {
+    uint8_t *at;
+    size_t bytes;
+} mapped[8192];
+static size_t mappings;
+
 /* Ends a group of checks. */
 static void group(const char *says)
 {
     printf("%s, %d checks: %s\n", wrong == 0 ? "passed" : "FAILED", checks, says);
     *(wrong == 0 ? &passed : &failed) += 1;
     checks = wrong = 0;
+    while (mappings > 0 && munmap(mapped[mappings - 1].at, mapped[mappings - 1].bytes) == 0)
+        mappings--;
 }
 
-/* n bytes that end at a protected page; they are lent until the program ends. */
+static int at_start; /* do buffers begin right behind a protected page, or else end at one? */
+
+/* n bytes with a protected page before and behind them, next to one of the two; they are lent until the group ends. */
 static uint8_t *guarded(size_t n)
 {
-    size_t page = (size_t)sysconf(_SC_PAGESIZE), pages = (n + page - 1) / page;
-    uint8_t *p = mmap(NULL, (pages + 1) * page, PROT_READ | PROT_WRITE, MAP_PRIVATE | MAP_ANONYMOUS, -1, 0);
-    if (p == MAP_FAILED || mprotect(p + pages * page, page, PROT_NONE) != 0) {
+    size_t page = (size_t)sysconf(_SC_PAGESIZE), inside = (n + page - 1) / page * page;
+    uint8_t *p = mmap(NULL, page + inside + page, PROT_NONE, MAP_PRIVATE | MAP_ANONYMOUS, -1, 0);
+    if (p == MAP_FAILED || mappings == sizeof mapped / sizeof *mapped ||
+        (inside > 0 && mprotect(p + page, inside, PROT_READ | PROT_WRITE) != 0)) {
         perror("guarded");
         exit(2);
     }
-    return p + pages * page - n;
+    mapped[mappings].at = p;
+    mapped[mappings++].bytes = page + inside + page;
+    return at_start ? p + page : p + page + inside - n;
 }
 
 /* Are these n bytes all b? */
@@ -48,7 +63,7 @@ static int all(const uint8_t *p, size_t n, uint8_t b)
 #define SUMMARY 0x5a
 #define COUNTERS 0xc3
 
-/* The buffers of one call: `in` is read, `out`, `summary` and receiving's `counters` are lent, and all end at a protected page. */
+/* The buffers of one call: `in` is read, `out`, `summary` and receiving's `counters` are lent. */
 static uint8_t *in, *out, *summary, *counters;
 static size_t in_len, out_len, summary_len, counters_len;
 static uint8_t old_counters[64]; /* as they were before the call */
@@ -70,11 +85,21 @@ static void lend(size_t in_bytes, size_t out_bytes, size_t summary_bytes)
     lend_counters(HOLZMOTTE_COUNTERS_BYTES, 0);
 }
 
+static const uint8_t IDLE[] = HOLZMOTTE_IDLE_VECTOR, ERROR[] = HOLZMOTTE_ERROR_VECTOR;
+static const uint8_t LOCAL_FAULT[] = HOLZMOTTE_LOCAL_FAULT_VECTOR, REMOTE_FAULT[] = HOLZMOTTE_REMOTE_FAULT_VECTOR;
+
 /* Eight idles, again and again; a length that is no multiple of ten ends inside one. */
 static void idles(void)
 {
     for (size_t i = 0; i < in_len; i++)
-        in[i] = i % 5 == 0 ? 0x0f : 0x07;
+        in[i] = IDLE[i % 10];
+}
+
+/* Noise, in vectors too: their control bytes stay below 16. */
+static void noise(int of_vectors)
+{
+    for (size_t i = 0; i < in_len; i++)
+        in[i] = (uint8_t)(rand() % (of_vectors && i % 5 == 0 ? 16 : 256));
 }
 
 static uint64_t sends(uint64_t start)
@@ -86,6 +111,15 @@ static uint64_t receives(void)
 {
     memcpy(old_counters, counters, counters_len);
     return holzmotte_receive(in, in_len, out, out_len, summary, summary_len, counters, counters_len);
+}
+
+/* Lends the line that was just sent to receiving. */
+static void lend_line(void)
+{
+    const uint8_t *line = out;
+    size_t line_len = out_len;
+    lend(line_len, HOLZMOTTE_VECTOR_ROOM(line_len), HOLZMOTTE_RECEIVE_SUMMARY_BYTES);
+    memcpy(in, line, line_len);
 }
 
 /* The room as it was, and zeros in a summary that has room for `words` bytes of them, else a summary as it was. */
@@ -139,10 +173,7 @@ static void whole_calls(void)
         CHECK(holzmotte_word(summary, HOLZMOTTE_SEND_STATE) < HOLZMOTTE_START_STATES);
         CHECK(holzmotte_word(summary, HOLZMOTTE_SEND_DIAGRAM) == HOLZMOTTE_C);
         CHECK(holzmotte_word(summary, HOLZMOTTE_SEND_REPLACED) == 0);
-        const uint8_t *line = out;
-        size_t line_len = out_len;
-        lend(line_len, HOLZMOTTE_VECTOR_ROOM(line_len), HOLZMOTTE_RECEIVE_SUMMARY_BYTES);
-        memcpy(in, line, line_len);
+        lend_line();
         CHECK(receives() == HOLZMOTTE_DONE);
         CHECK(out_len == 10 * vectors);
         CHECK(holzmotte_word(summary, HOLZMOTTE_RECEIVE_TESTED) == vectors);
@@ -163,8 +194,7 @@ static void lines_of_every_length(void)
 {
     for (size_t n = 0; n <= 700; n++) {
         lend(n, HOLZMOTTE_VECTOR_ROOM(n), HOLZMOTTE_RECEIVE_SUMMARY_BYTES);
-        for (size_t i = 0; i < n; i++)
-            in[i] = (uint8_t)rand();
+        noise(0);
         CHECK(receives() == HOLZMOTTE_DONE);
         size_t written = HOLZMOTTE_VECTOR_BYTES * (size_t)holzmotte_word(summary, HOLZMOTTE_RECEIVE_VECTORS);
         CHECK(written <= out_len && all(out + written, out_len - written, ROOM));
@@ -178,9 +208,8 @@ static void the_longest(void)
     lend(HOLZMOTTE_MAX_VECTOR_BYTES, HOLZMOTTE_MAX_LINE_BYTES, HOLZMOTTE_SEND_SUMMARY_BYTES);
     idles();
     CHECK(sends(HOLZMOTTE_START_STATES - 1) == HOLZMOTTE_DONE);
-    const uint8_t *line = out;
-    lend(HOLZMOTTE_MAX_LINE_BYTES, HOLZMOTTE_MAX_VECTOR_BYTES, HOLZMOTTE_RECEIVE_SUMMARY_BYTES);
-    memcpy(in, line, in_len);
+    lend_line();
+    CHECK(out_len == HOLZMOTTE_MAX_VECTOR_BYTES);
     CHECK(receives() == HOLZMOTTE_DONE);
     CHECK(holzmotte_word(summary, HOLZMOTTE_RECEIVE_VECTORS) == 100000);
     CHECK(holzmotte_counter(counters, HOLZMOTTE_COUNT_TESTED) == 100000 && counted());
@@ -216,7 +245,7 @@ static void longer_slices(void)
     lend_counters(HOLZMOTTE_COUNTERS_BYTES + 9, COUNTERS);
     memset(in, 0, in_len);
     CHECK(receives() == HOLZMOTTE_DONE);
-    CHECK(memcmp(out, "\x01\x9c\x00\x00\x01\x01\x9c\x00\x00\x01", 10) == 0);
+    CHECK(memcmp(out, LOCAL_FAULT, 10) == 0);
     CHECK(all(out + 10, 100, ROOM));
     CHECK(holzmotte_word(summary, HOLZMOTTE_RECEIVE_TESTED) == 1 && holzmotte_word(summary, HOLZMOTTE_RECEIVE_SLIPS) == 1);
     CHECK(only_fault(HOLZMOTTE_RECEIVE_HEADER_FAULTS));
@@ -278,19 +307,23 @@ static void last_frame(void)
 
 #define ERRORS "\x0f\xfe\xfe\xfe\xfe\x0f\xfe\xfe\xfe\xfe"
 
-/* Lends a line for calls that lend counters of their own: idles, three errors, three frames. Block 72 has an invalid header. So the
- * second frame's Terminate is answered as an error too, and so is the third frame's Start. */
-static void lend_frames(void)
+/* Lends vectors: idles, three errors, three frames. */
+static void lend_frame_vectors(void)
 {
     lend(10 * 76, HOLZMOTTE_LINE_ROOM(10 * 76), HOLZMOTTE_SEND_SUMMARY_BYTES);
     idles();
     memcpy(in + 10 * 64, ERRORS ERRORS ERRORS, 30);
     memcpy(in + 10 * 68, START TERMINATE START TERMINATE, 40);
     memcpy(in + 10 * 73, START TERMINATE, 20);
+}
+
+/* Lends their line, for calls that lend counters of their own. Block 72 has an invalid header. So the second frame's Terminate is answered
+ * as an error too, and so is the third frame's Start. */
+static void lend_frames(void)
+{
+    lend_frame_vectors();
     CHECK(sends(0) == HOLZMOTTE_DONE);
-    const uint8_t *line = out;
-    lend(33 * 19, 10 * 76, HOLZMOTTE_RECEIVE_SUMMARY_BYTES);
-    memcpy(in, line, in_len);
+    lend_line();
     in[33 * 18] ^= 1;
 }
 
@@ -336,7 +369,7 @@ static void running_total(void)
 static void unaligned_counters(void)
 {
     lend_frames();
-    /* up to the protected page */
+    /* up to the protected page, where buffers end at one */
     for (size_t more = 0; more <= 16; more++) {
         lend_counters(HOLZMOTTE_COUNTERS_BYTES + more, COUNTERS);
         receive_frames();
@@ -416,7 +449,193 @@ static void receiving_refusals(void)
     group("receiving's refusals, in their order, with short summaries and counters");
 }
 
-int main(void)
+/* What document 01 calls these, and the example of reading a vector that stands in the header. */
+static void named_octets(void)
+{
+    CHECK(memcmp(IDLE, "\x0f\x07\x07\x07\x07\x0f\x07\x07\x07\x07", 10) == 0 && sizeof IDLE == 10);
+    CHECK(memcmp(ERROR, "\x0f\xfe\xfe\xfe\xfe\x0f\xfe\xfe\xfe\xfe", 10) == 0 && sizeof ERROR == 10);
+    CHECK(memcmp(LOCAL_FAULT, "\x01\x9c\x00\x00\x01\x01\x9c\x00\x00\x01", 10) == 0 && sizeof LOCAL_FAULT == 10);
+    CHECK(memcmp(REMOTE_FAULT, "\x01\x9c\x00\x00\x02\x01\x9c\x00\x00\x02", 10) == 0 && sizeof REMOTE_FAULT == 10);
+    CHECK(HOLZMOTTE_IDLE == 0x07 && HOLZMOTTE_ERROR == 0xfe && HOLZMOTTE_START == 0xfb && HOLZMOTTE_TERMINATE == 0xfd);
+    CHECK(HOLZMOTTE_SEQUENCE == 0x9c && HOLZMOTTE_SIGNAL == 0x5c);
+    const uint8_t example[] = {0x0f, 0x07, 0x07, 0x07, 0x07, 0x01, 0xfb, 0x55, 0x55, 0x55};
+    for (int i = 0; i < 8; i++) {
+        CHECK(holzmotte_is_control(example, i) == (i <= 4));
+        CHECK(holzmotte_octet(example, i) == (i < 4 ? HOLZMOTTE_IDLE : i == 4 ? HOLZMOTTE_START : 0x55));
+    }
+    group("octets, words and vectors are what document 01 calls them");
+}
+
+/* A vector of each sort that the header names, sent after idles. The library knows them all: all but the error come back as sent. */
+static void named_vectors(void)
+{
+    static const uint8_t NAMED[8][10] = {
+        HOLZMOTTE_LOCAL_FAULT_VECTOR,
+        HOLZMOTTE_REMOTE_FAULT_VECTOR,
+        {0x01, HOLZMOTTE_SEQUENCE, 0, 0, 3, HOLZMOTTE_IDLE_WORD},
+        {HOLZMOTTE_IDLE_WORD, 0x01, HOLZMOTTE_SIGNAL, 1, 2, 3},
+        {HOLZMOTTE_IDLE_WORD, 0x01, HOLZMOTTE_START, 0x55, 0x55, 0x55},
+        {0x00, 0x55, 0x55, 0x55, 0xd5, 0x0e, 7, HOLZMOTTE_TERMINATE, HOLZMOTTE_IDLE, HOLZMOTTE_IDLE},
+        HOLZMOTTE_IDLE_VECTOR,
+        HOLZMOTTE_ERROR_VECTOR,
+    };
+    lend(10 * 72, HOLZMOTTE_LINE_ROOM(10 * 72), HOLZMOTTE_SEND_SUMMARY_BYTES);
+    idles();
+    memcpy(in + 10 * 64, NAMED, sizeof NAMED);
+    CHECK(sends(0) == HOLZMOTTE_DONE);
+    CHECK(holzmotte_word(summary, HOLZMOTTE_SEND_REPLACED) == 1 && holzmotte_word(summary, HOLZMOTTE_SEND_DIAGRAM) == HOLZMOTTE_E);
+    lend_line();
+    CHECK(receives() == HOLZMOTTE_DONE);
+    for (int i = 0; i < 63; i++)
+        CHECK(memcmp(out + 10 * i, LOCAL_FAULT, 10) == 0);
+    CHECK(memcmp(out + 10 * 63, IDLE, 10) == 0);
+    CHECK(memcmp(out + 10 * 64, NAMED, sizeof NAMED) == 0);
+    CHECK(holzmotte_word(summary, HOLZMOTTE_RECEIVE_BEGUN) == 1 && holzmotte_word(summary, HOLZMOTTE_RECEIVE_REPLACED) == 1);
+    group("a vector of each sort that the header names");
+}
+
+static void flip(size_t block, size_t bit)
+{
+    size_t n = 66 * block + bit;
+    in[n / 8] ^= (uint8_t)(1 << n % 8);
+}
+
+/* The header's words: "72 idle, 16 Local Fault, 12 idle from state 0, bits 26 and 27 of block 80 flipped: vector 80 comes back as a Remote
+ * Fault (its first word; vector 81 is the error vector)". The second word of vector 80 is no fault at all. */
+static void fault_becomes_another(void)
+{
+    uint8_t sent[10 * 100];
+    lend(sizeof sent, HOLZMOTTE_LINE_ROOM(sizeof sent), HOLZMOTTE_SEND_SUMMARY_BYTES);
+    idles();
+    for (int i = 72; i < 88; i++)
+        memcpy(in + 10 * i, LOCAL_FAULT, 10);
+    memcpy(sent, in, sizeof sent);
+    CHECK(sends(0) == HOLZMOTTE_DONE);
+    lend_line();
+    CHECK(receives() == HOLZMOTTE_DONE);
+    CHECK(memcmp(out + 10 * 63, sent + 10 * 63, 10 * 37) == 0);
+    flip(80, 26);
+    flip(80, 27);
+    CHECK(receives() == HOLZMOTTE_DONE);
+    CHECK(memcmp(out + 10 * 80, REMOTE_FAULT, 5) == 0);
+    CHECK(memcmp(out + 10 * 80 + 5, "\x01\x9c\x00\x00\x81", 5) == 0);
+    CHECK(memcmp(out + 10 * 81, ERROR, 10) == 0);
+    CHECK(memcmp(out + 10 * 63, sent + 10 * 63, 10 * 17) == 0);
+    CHECK(memcmp(out + 10 * 82, sent + 10 * 82, 10 * 18) == 0);
+    CHECK(holzmotte_word(summary, HOLZMOTTE_RECEIVE_LOCKED) == 1 && holzmotte_word(summary, HOLZMOTTE_RECEIVE_HIGH) == 0);
+    group("two flipped bits make a Remote Fault of a Local Fault");
+}
+
+/* Sends vectors `from` to `to` of a list of idles, a frame of six vectors from number 4 on, and idles; the line goes to `line`. The end
+ * state. */
+static uint64_t send_part(int from, int to, uint64_t start, uint8_t *line)
+{
+    uint8_t list[10 * 16];
+    for (int i = 0; i < 16; i++)
+        memcpy(list + 10 * i, i == 4 ? (const uint8_t *)START : i == 9 ? (const uint8_t *)TERMINATE : IDLE, 10);
+    memset(list + 10 * 5, 0, 10 * 4);
+    lend(10 * (size_t)(to - from), HOLZMOTTE_LINE_ROOM(10 * (to - from)), HOLZMOTTE_SEND_SUMMARY_BYTES);
+    memcpy(in, list + 10 * from, in_len);
+    CHECK(sends(start) == HOLZMOTTE_DONE);
+    memcpy(line, out, out_len);
+    return holzmotte_word(summary, HOLZMOTTE_SEND_STATE);
+}
+
+/* One call, and two calls with the scrambler's state handed on, cut between frames and inside the frame. */
+static void lists_in_two_calls(void)
+{
+    uint8_t whole[33 * 4], parts[33 * 4];
+    uint64_t end = send_part(0, 16, 5, whole);
+    CHECK(holzmotte_word(summary, HOLZMOTTE_SEND_REPLACED) == 0);
+    for (int cut = 0; cut <= 16; cut += 4) {
+        uint64_t middle = send_part(0, cut, 5, parts), inside = cut == 8;
+        CHECK((holzmotte_word(summary, HOLZMOTTE_SEND_DIAGRAM) == HOLZMOTTE_D) == inside);
+        uint64_t last = send_part(cut, 16, middle, parts + HOLZMOTTE_LINE_ROOM(10 * cut));
+        CHECK(holzmotte_word(summary, HOLZMOTTE_SEND_REPLACED) == inside);
+        CHECK((memcmp(parts, whole, sizeof whole) != 0) == inside);
+        CHECK((last != end) == inside);
+    }
+    group("lists sent in two calls: between frames as in one call, inside a frame with one vector replaced");
+}
+
+/* A thread's stack that is painted before it runs: what the call touched is not paint any more. */
+#define PAINTED_BYTES ((size_t)1 << 19)
+#define PAINT 0x5c
+static uint64_t (*painted_call)(void);
+static uint8_t *before_call;
+
+static void *on_painted_stack(void *unused)
+{
+    uint8_t here;
+    before_call = &here;
+    painted_call();
+    return unused;
+}
+
+/* The bytes of stack that a call takes. */
+static size_t stack_of(uint64_t (*call)(void))
+{
+    uint8_t *lowest = guarded(PAINTED_BYTES), *stack = lowest;
+    pthread_attr_t attributes;
+    pthread_t thread;
+    painted_call = call;
+    memset(stack, PAINT, PAINTED_BYTES);
+    CHECK(pthread_attr_init(&attributes) == 0 && pthread_attr_setstack(&attributes, stack, PAINTED_BYTES) == 0);
+    CHECK(pthread_create(&thread, &attributes, on_painted_stack, NULL) == 0 && pthread_join(thread, NULL) == 0);
+    while (*lowest == PAINT)
+        lowest++;
+    CHECK(lowest > stack && before_call > lowest && before_call < stack + PAINTED_BYTES);
+    return (size_t)(before_call - lowest);
+}
+
+static uint64_t sends_from_0(void) { return sends(0); }
+
+/* The most that the calls took so far. */
+static size_t sending_took, receiving_took;
+
+/* Sends what is lent, and receives its line. */
+static void both_on_painted_stack(void)
+{
+    size_t took = stack_of(sends_from_0);
+    sending_took = took > sending_took ? took : sending_took;
+    lend_line();
+    took = stack_of(receives);
+    receiving_took = took > receiving_took ? took : receiving_took;
+}
+
+static void stack_use(void)
+{
+    lend(40000, HOLZMOTTE_LINE_ROOM(40000), HOLZMOTTE_SEND_SUMMARY_BYTES);
+    idles();
+    both_on_painted_stack();
+    lend(40000, HOLZMOTTE_LINE_ROOM(40000), HOLZMOTTE_SEND_SUMMARY_BYTES);
+    noise(1);
+    both_on_painted_stack();
+    lend_frame_vectors();
+    both_on_painted_stack();
+    lend(40000, 0, HOLZMOTTE_SEND_SUMMARY_BYTES); /* refused, and an empty line */
+    both_on_painted_stack();
+    lend(HOLZMOTTE_MAX_LINE_BYTES + 1, HOLZMOTTE_MAX_LINE_BYTES + 1, HOLZMOTTE_SEND_SUMMARY_BYTES); /* both refused */
+    both_on_painted_stack();
+    CHECK(sending_took <= HOLZMOTTE_STACK_BYTES);
+    CHECK(receiving_took <= HOLZMOTTE_STACK_BYTES);
+    printf("stack: sending took %zu bytes, receiving %zu\n", sending_took, receiving_took);
+    group("both functions keep to the stack that the header states");
+}
+
+static void version_and_texts(void)
+{
+    char version[16];
+    snprintf(version, sizeof version, "%d.%d.%d", HOLZMOTTE_VERSION_MAJOR, HOLZMOTTE_VERSION_MINOR, HOLZMOTTE_VERSION_PATCH);
+    CHECK(strcmp(version, HOLZMOTTE_VERSION) == 0);
+    for (int i = -1; i <= 9; i++)
+        for (int k = -1; k < i; k++)
+            CHECK((strcmp(holzmotte_refusal_text(i), holzmotte_refusal_text(k)) == 0) == (k == -1 && i == 9));
+    CHECK(strcmp(holzmotte_refusal_text(9), "unknown") == 0);
+    group("the version's numbers and text; a text of its own for each refusal");
+}
+
+static void groups(void)
 {
     whole_calls();
     lines_of_every_length();
@@ -429,6 +648,20 @@ int main(void)
     unaligned_counters();
     sending_refusals();
     receiving_refusals();
+    named_octets();
+    named_vectors();
+    fault_becomes_another();
+    lists_in_two_calls();
+    stack_use();
+    version_and_texts();
+}
+
+int main(void)
+{
+    for (at_start = 0; at_start <= 1; at_start++) {
+        puts(at_start ? "buffers begin right behind a protected page:" : "buffers end at a protected page:");
+        groups();
+    }
     printf("%d passed, %d failed\n", passed, failed);
     return failed != 0;
 }

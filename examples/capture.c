@@ -4,7 +4,9 @@
  *   noise    a header bit of a frame's block is flipped, and a stretch of the line is noise
  *   fibre    one bit in 3,001 is flipped, from block 70 on
  *   sender   the line is whole, and the far end sends five errors before its last idles
- *   cut      the capture stops with the byte in which the last frame's Terminate ends */
+ *   cut      the capture stops with the byte in which the last frame's Terminate ends
+ *   fault    another list: the far end reports Local Fault, and two flipped bits make a Remote Fault of one (the header's example)
+ *   faults   the same, with two flipped bits in the second word: the first stays a Local Fault */
 #include "holzmotte.h"
 
 #include <stdio.h>
@@ -13,22 +15,24 @@
 static uint8_t vectors[HOLZMOTTE_MAX_VECTOR_BYTES], line[HOLZMOTTE_MAX_LINE_BYTES], summary[HOLZMOTTE_SEND_SUMMARY_BYTES];
 static size_t vectors_len;
 
-static void add(const char *vector, size_t count)
+static const uint8_t IDLE[] = HOLZMOTTE_IDLE_VECTOR, ERROR[] = HOLZMOTTE_ERROR_VECTOR;
+static const uint8_t LOCAL_FAULT[] = HOLZMOTTE_LOCAL_FAULT_VECTOR, REMOTE_FAULT[] = HOLZMOTTE_REMOTE_FAULT_VECTOR;
+static const uint8_t START[] = {0x01, HOLZMOTTE_START, 0x55, 0x55, 0x55, 0x00, 0x55, 0x55, 0x55, 0xd5};
+static const uint8_t DATA[] = {0x00, 'H', 'o', 'l', 'z', 0x00, 'm', 'o', 't', 't'};
+static const uint8_t TERMINATE[] = {0x0f, HOLZMOTTE_TERMINATE, HOLZMOTTE_IDLE, HOLZMOTTE_IDLE, HOLZMOTTE_IDLE, HOLZMOTTE_IDLE_WORD};
+
+static void add(const uint8_t *vector, size_t count)
 {
     for (size_t i = 0; i < count; i++, vectors_len += 10)
         memcpy(vectors + vectors_len, vector, 10);
 }
 
-static void idles(size_t count) { add("\x0f\x07\x07\x07\x07\x0f\x07\x07\x07\x07", count); }
-
-static void errors(size_t count) { add("\x0f\xfe\xfe\xfe\xfe\x0f\xfe\xfe\xfe\xfe", count); }
-
 /* A frame of 8 * n octets after its preamble. */
 static void frame(size_t n)
 {
-    add("\x01\xfb\x55\x55\x55\x00\x55\x55\x55\xd5", 1);
-    add("\x00Holz\x00mott", n);
-    add("\x0f\xfd\x07\x07\x07\x0f\x07\x07\x07\x07", 1);
+    add(START, 1);
+    add(DATA, n);
+    add(TERMINATE, 1);
 }
 
 /* The line as records of at most 4,092 bytes: body length, kind 2, body. */
@@ -50,33 +54,53 @@ static void noise(void)
         line[i] = (uint8_t)((random = random * 1664525 + 1013904223) >> 24);
 }
 
+static void flip(size_t bit) { line[bit / 8] ^= (uint8_t)(1 << bit % 8); }
+
 static void flips(size_t len)
 {
     for (size_t bit = 66 * 70; bit < 8 * len; bit += 3001)
-        line[bit / 8] ^= (uint8_t)(1 << bit % 8);
+        flip(bit);
+}
+
+static void local_faults(void)
+{
+    add(IDLE, 72);
+    add(LOCAL_FAULT, 16);
+    add(IDLE, 12);
+}
+
+/* The bytes of line up to the end of the last frame. */
+static size_t frames(size_t errors)
+{
+    add(IDLE, 80);
+    add(REMOTE_FAULT, 24);
+    add(IDLE, 12);
+    frame(8);
+    add(IDLE, 2);
+    frame(188);
+    frame(8);
+    add(IDLE, 800);
+    frame(8);
+    size_t bits = vectors_len / 10 * 66;
+    add(IDLE, 70);
+    add(ERROR, errors);
+    add(IDLE, 4 - vectors_len / 10 % 4);
+    return (bits + 7) / 8;
 }
 
 int main(int argc, char **argv)
 {
     const char *scene = argc == 2 ? argv[1] : "clean";
-    idles(80);
-    add("\x01\x9c\x00\x00\x02\x01\x9c\x00\x00\x02", 24);
-    idles(12);
-    frame(8);
-    idles(2);
-    frame(188);
-    frame(8);
-    idles(800);
-    frame(8);
-    size_t frames_bits = vectors_len / 10 * 66;
-    idles(70);
-    if (strcmp(scene, "sender") == 0)
-        errors(5);
-    idles(4 - vectors_len / 10 % 4);
+    size_t frames_len = 0, fault = strcmp(scene, "fault") == 0 ? 26 : strcmp(scene, "faults") == 0 ? 58 : 0; /* a bit of block 80 */
+    if (fault > 0)
+        local_faults();
+    else
+        frames_len = frames(strcmp(scene, "sender") == 0 ? 5 : 0);
 
-    uint64_t result = holzmotte_send(vectors, vectors_len, 0x2a5a5a5a5a5a5a5, line, sizeof line, summary, sizeof summary);
+    uint64_t start = fault > 0 ? 0 : 0x2a5a5a5a5a5a5a5;
+    uint64_t result = holzmotte_send(vectors, vectors_len, start, line, sizeof line, summary, sizeof summary);
     if (result != HOLZMOTTE_DONE) {
-        fprintf(stderr, "refused %d\n", HOLZMOTTE_NUMBER(result));
+        fprintf(stderr, "capture: %s\n", holzmotte_refusal_text(HOLZMOTTE_NUMBER(result)));
         return 1;
     }
     size_t len = HOLZMOTTE_LINE_ROOM(vectors_len);
@@ -85,7 +109,11 @@ int main(int argc, char **argv)
     if (strcmp(scene, "fibre") == 0)
         flips(len);
     if (strcmp(scene, "cut") == 0)
-        len = (frames_bits + 7) / 8;
+        len = frames_len;
+    if (fault > 0) {
+        flip(66 * 80 + fault);
+        flip(66 * 80 + fault + 1);
+    }
     write_records(len);
-    return 0;
+    return fflush(stdout) != 0 || ferror(stdout);
 }

@@ -4,12 +4,24 @@
  * one line for each run of vectors that say the same. After several files it prints the total. All that it tells stands in the vectors,
  * summaries and counters that the library answered. A block takes 6.4 ns on the line.
  *
- * A file that is refused or cannot be read adds nothing to the total, and the next one is told. The exit status is 0, 1 where a file was
- * refused, 2 where one could not be read. */
+ * It looks at control characters and ordered sets, and at no other data. A few flipped bits show as errors, or else change data octets
+ * alone (the header, "What damage can do"): a frame may have wrong data, and a fault may have been another ordered set. Clause 46 wants
+ * four of a fault, so a run of fewer is marked.
+ *
+ * A file that ends inside a record is told up to that record. One that is refused for another reason, or cannot be read, adds nothing to
+ * the total, and the next one is told. The exit status is 0, 1 where a file was refused or ends inside a record, 2 where one could not be
+ * read, and 3 where the output could not be written. */
 #include "holzmotte.h"
 
+#include <errno.h>
+#include <signal.h>
 #include <stdio.h>
 #include <string.h>
+
+static const char USAGE[] =
+    "usage: linkwatch CAPTURE ...\n"
+    "A capture is a file of records: body length and kind (two bytes each, least significant first), then the body. All are of kind 2,\n"
+    "line bytes: at most 4,092 in a record, and 825,000 in a file.\n";
 
 #define MOST_BODY 4092
 
@@ -17,42 +29,31 @@ static uint8_t line[HOLZMOTTE_MAX_LINE_BYTES + MOST_BODY], vectors[HOLZMOTTE_MAX
 static uint8_t summary[HOLZMOTTE_RECEIVE_SUMMARY_BYTES], summary_at_lock[HOLZMOTTE_RECEIVE_SUMMARY_BYTES];
 static uint8_t total[HOLZMOTTE_COUNTERS_BYTES], not_told[HOLZMOTTE_COUNTERS_BYTES]; /* not_told: of calls that look for lock */
 static size_t line_len, place; /* place: of the record that is read */
+static int told;               /* captures in the total */
 
 /* Gathers the line bytes of a capture file: 0, or the number of the first refusal. A record is body length (2 bytes), kind (2 bytes;
  * 1 vectors, 2 line bytes) and body. */
 static int gather(FILE *file)
 {
-    uint8_t head[4];
+    uint8_t head[4] = {0};
     size_t got;
     line_len = 0;
     for (place = 0; (got = fread(head, 1, 4, file)) > 0; place += 4 + (head[0] + 256u * head[1])) {
         size_t body = head[0] + 256u * head[1], kind = head[2] + 256u * head[3];
         if (got < 4)
-            return 6;
+            return HOLZMOTTE_RECORD_CUT;
         if (body > MOST_BODY)
-            return 7;
+            return HOLZMOTTE_RECORD_LONG;
         if (kind != 1 && kind != 2)
-            return 8;
+            return HOLZMOTTE_RECORD_KIND;
         if (fread(line + line_len, 1, body, file) < body)
-            return 6;
+            return HOLZMOTTE_RECORD_CUT;
         if (kind == 1)
-            return body % 40 == 0 ? 8 : 2;
+            return body % 40 == 0 ? HOLZMOTTE_RECORD_KIND : HOLZMOTTE_RAGGED;
         if ((line_len += body) > HOLZMOTTE_MAX_LINE_BYTES)
-            return 1;
+            return HOLZMOTTE_TOO_LONG;
     }
-    return 0;
-}
-
-static const char *reason(int number)
-{
-    switch (number) {
-    case 1: return "more than 825,000 line bytes";
-    case 2: return "a record of vectors that do not come in fours";
-    case 6: return "a record is cut short";
-    case 7: return "a record longer than 4,092 bytes";
-    case 8: return "a record that does not hold line bytes";
-    default: return "the library does not take it";
-    }
+    return HOLZMOTTE_DONE;
 }
 
 /* Has the library receive the first n bytes of the line, and add to these counters: 0, or the number of its refusal. */
@@ -64,24 +65,30 @@ static int receive(size_t n, uint8_t *counters)
 
 static unsigned long word(enum holzmotte_receive_word i) { return (unsigned long)holzmotte_word(summary, i); }
 
-static int locked_after(size_t n)
+/* Was lock ever had in the first n bytes? Without lock every invalid header makes a slip; lock is lost over 16 of them, with one slip. So
+ * a line that ends without lock never had it exactly where the two counts are equal. */
+static int had_lock(size_t n)
 {
-    return receive(n, not_told) == HOLZMOTTE_DONE && word(HOLZMOTTE_RECEIVE_LOCKED) == 1;
+    return receive(n, not_told) == HOLZMOTTE_DONE &&
+           (word(HOLZMOTTE_RECEIVE_LOCKED) == 1 || word(HOLZMOTTE_RECEIVE_HEADER_FAULTS) > word(HOLZMOTTE_RECEIVE_SLIPS));
 }
 
-/* The number of blocks tested when lock first came, or 0. The library is asked about longer and longer beginnings of the line: lock
- * lasts for at least 16 blocks, 132 bytes, so steps of 128 miss none. */
+/* The number of blocks tested when lock first came, or 0. What was had in a beginning of the line was had in every longer one, so the
+ * shortest with lock is found by halving: some 20 calls. */
 static unsigned long first_lock(void)
 {
-    size_t n = 0;
+    size_t without = 0, with = line_len;
     memset(summary_at_lock, 0, sizeof summary_at_lock);
-    while (n < line_len && !locked_after(n))
-        n = n + 128 < line_len ? n + 128 : line_len;
-    if (!locked_after(n))
+    if (!had_lock(with))
         return 0;
-    while (locked_after(n - 1))
-        n--;
-    receive(n, not_told);
+    while (with - without > 1) {
+        size_t middle = without + (with - without) / 2;
+        if (had_lock(middle))
+            with = middle;
+        else
+            without = middle;
+    }
+    receive(with, not_told);
     memcpy(summary_at_lock, summary, sizeof summary);
     return word(HOLZMOTTE_RECEIVE_TESTED);
 }
@@ -94,36 +101,40 @@ static unsigned long since_lock(enum holzmotte_receive_word i)
 }
 
 static const uint8_t *vector(unsigned long n) { return vectors + HOLZMOTTE_VECTOR_BYTES * n; }
-static int is_control(const uint8_t *v, int i) { return v[i / 4 * 5] >> i % 4 & 1; }
 
 /* Has vector v this control character? */
-static int has(const uint8_t *v, int character)
+static int has(const uint8_t *v, enum holzmotte_control_character character)
 {
     for (int i = 0; i < 8; i++)
-        if (is_control(v, i) && v[i / 4 * 5 + 1 + i % 4] == character)
+        if (holzmotte_is_control(v, i) && holzmotte_octet(v, i) == character)
             return 1;
     return 0;
 }
 
-static int starts(const uint8_t *v) { return has(v, 0xfb); }
-static int ends(const uint8_t *v) { return has(v, 0xfd); }
-static int either(const uint8_t *v, const char *word) { return !memcmp(v, word, 5) || !memcmp(v + 5, word, 5); }
-static int both(const uint8_t *v, const char *word) { return !memcmp(v, word, 5) && !memcmp(v + 5, word, 5); }
+static int starts(const uint8_t *v) { return has(v, HOLZMOTTE_START); }
+static int ends(const uint8_t *v) { return has(v, HOLZMOTTE_TERMINATE); }
 
-enum says { ERRORS, FRAME, REMOTE_FAULT, LOCAL_FAULT, IDLE, OTHER };
-static const char *const SAYS[] = {"errors", "frame", "Remote Fault", "Local Fault", "idle", "other control characters"};
+static const uint8_t IDLES[] = HOLZMOTTE_IDLE_VECTOR, ERROR[] = HOLZMOTTE_ERROR_VECTOR;
+static const uint8_t LOCAL[] = {HOLZMOTTE_LOCAL_FAULT_WORD}, REMOTE[] = {HOLZMOTTE_REMOTE_FAULT_WORD};
+
+/* How many of the two words of vector v are this one? */
+static int times(const uint8_t *v, const uint8_t *five) { return !memcmp(v, five, 5) + !memcmp(v + 5, five, 5); }
+
+enum says { ERRORS, FRAME, BOTH_FAULTS, REMOTE_FAULT, LOCAL_FAULT, IDLE, OTHER };
+static const char *const SAYS[] = {"errors",      "frame", "Local Fault and Remote Fault", "Remote Fault",
+                                   "Local Fault", "idle",  "other control characters"};
 
 static enum says says(const uint8_t *v)
 {
-    if (both(v, "\x0f\xfe\xfe\xfe\xfe"))
+    if (memcmp(v, ERROR, 10) == 0)
         return ERRORS;
     if (starts(v) || ends(v) || (v[0] == 0 && v[5] == 0))
         return FRAME;
-    if (either(v, "\x01\x9c\x00\x00\x02"))
-        return REMOTE_FAULT;
-    if (either(v, "\x01\x9c\x00\x00\x01"))
+    if (times(v, REMOTE) > 0)
+        return times(v, LOCAL) > 0 ? BOTH_FAULTS : REMOTE_FAULT;
+    if (times(v, LOCAL) > 0)
         return LOCAL_FAULT;
-    return both(v, "\x0f\x07\x07\x07\x07") ? IDLE : OTHER;
+    return memcmp(v, IDLES, 10) == 0 ? IDLE : OTHER;
 }
 
 /* Does vector n + 1 go on with the run of vector n? A frame begins at Start and ends with Terminate. */
@@ -131,6 +142,17 @@ static int goes_on(unsigned long n)
 {
     const uint8_t *v = vector(n), *next = vector(n + 1);
     return says(v) == says(next) && !(says(v) == FRAME && (ends(v) || starts(next)));
+}
+
+/* Are there fewer than four Local Faults and fewer than four Remote Faults in this run? */
+static int few_faults(unsigned long from, unsigned long to)
+{
+    int locals = 0, remotes = 0;
+    for (unsigned long n = from; n < to && locals < 4 && remotes < 4; n++) {
+        locals += times(vector(n), LOCAL);
+        remotes += times(vector(n), REMOTE);
+    }
+    return locals < 4 && remotes < 4;
 }
 
 static void print_run(unsigned long from, unsigned long to, unsigned long lock)
@@ -143,8 +165,11 @@ static void print_run(unsigned long from, unsigned long to, unsigned long lock)
         printf(", no Terminate");
     if (to == word(HOLZMOTTE_RECEIVE_VECTORS) && word(HOLZMOTTE_RECEIVE_ALONE))
         printf(", judged without what follows it");
+    int fault = said == BOTH_FAULTS || said == REMOTE_FAULT || said == LOCAL_FAULT, unlocked = lock == 0 || to < lock;
     if (said == LOCAL_FAULT)
-        printf("%s", lock == 0 || to < lock ? ": not locked yet" : ": sent, or lock lost, or the error rate high");
+        printf("%s", unlocked ? ": not locked yet" : ": sent, or lock lost, or the error rate high");
+    if (fault && !unlocked && few_faults(from, to))
+        printf("; fewer than four, so it may be another ordered set, damaged");
     puts("");
 }
 
@@ -221,43 +246,68 @@ static void print_total(int captures)
     print_answers(count(HOLZMOTTE_COUNT_BEGUN), count(HOLZMOTTE_COUNT_REPLACED));
 }
 
+static void print_refusal(int number, const char *and_then)
+{
+    printf("refused, number %d, the record at byte %zu: %s%s\n", number, place, holzmotte_refusal_text(number), and_then);
+}
+
+/* Has what was gathered received, and tells it: an exit status. */
+static int tell(void)
+{
+    unsigned long lock = first_lock();
+    int number = receive(line_len, total);
+    if (number != HOLZMOTTE_DONE) {
+        print_refusal(number, "");
+        return 1;
+    }
+    print_link(lock);
+    told++;
+    return 0;
+}
+
 /* Tells one capture: an exit status. */
 static int watch(const char *name)
 {
     FILE *file = fopen(name, "rb");
-    int number = file ? gather(file) : 0, unread = !file || ferror(file);
+    int number = file ? gather(file) : HOLZMOTTE_DONE, unread = !file || ferror(file);
+    if (unread)
+        fprintf(stderr, "linkwatch: %s: %s\n", name, strerror(errno));
     if (file)
         fclose(file);
-    if (unread) {
-        fprintf(stderr, "linkwatch: %s: no such file, or it cannot be read\n", name);
+    if (unread)
         return 2;
+    if (number == HOLZMOTTE_DONE)
+        return tell();
+    if (number == HOLZMOTTE_RECORD_CUT && line_len > 0) {
+        print_refusal(number, "; what stands before it is told");
+        tell();
+    } else {
+        print_refusal(number, "");
     }
-    unsigned long lock = number == 0 ? first_lock() : 0;
-    if (number == 0)
-        number = receive(line_len, total);
-    if (number != 0) {
-        printf("refused, number %d, the record at byte %zu: %s\n", number, place, reason(number));
-        return 1;
-    }
-    print_link(lock);
-    return 0;
+    return 1;
 }
 
 int main(int argc, char **argv)
 {
-    int worst = 0, told = 0;
+    int worst = 0;
     if (argc < 2) {
-        fputs("linkwatch CAPTURE ...\n", stderr);
+        fputs(USAGE, stderr);
         return 2;
     }
+#ifdef SIGPIPE
+    signal(SIGPIPE, SIG_IGN); /* a closed pipe is then output that could not be written */
+#endif
     for (int i = 1; i < argc; i++) {
         if (argc > 2)
             printf("%s%s:\n", i == 1 ? "" : "\n", argv[i]);
         int status = watch(argv[i]);
-        told += status == 0;
         worst = status > worst ? status : worst;
     }
     if (argc > 2)
         print_total(told);
+    if (fflush(stdout) != 0 || ferror(stdout)) {
+        fputs("linkwatch: the output could not be written\n", stderr);
+        return 3;
+    }
     return worst;
 }

@@ -1,7 +1,10 @@
 /* Holzmotte: the physical coding sublayer of a 10GBASE-R link (IEEE 802.3 Clause 49), from XGMII vectors to line bits and back.
  *
- * Two functions, proved to do what the project's definitions say for every input. They allocate nothing, keep nothing between
- * calls and touch no memory but what is lent to them, so they may be called from any thread.
+ * Two functions, proved to do what the project's definitions say for every input. They allocate nothing, keep nothing between calls
+ * and touch no memory but what is lent to them, their stack and constants of their own, so they may be called from any thread.
+ *
+ * Compiling. This file is C11 and C++11. After `make install`: cc -std=c11 app.c -lholzmotte
+ * Without it, in the project's folder after `make native`: cc -std=c11 -Iinclude app.c target/native/libholzmotte.a
  *
  * Slices. Each buffer is a pointer and, right after it, its length in bytes. For every slice of every call:
  *   - The caller owns it, before, during and after the call; the library keeps no pointer.
@@ -21,9 +24,7 @@
  *
  * What is written. A success writes exactly the bytes that stand at each function, from the start of the lent slice, and leaves the
  * rest of the slice as it was. A refusal leaves `line`, or `vectors` and `counters`, as they were and writes the summary's bytes as
- * zeros; where the summary slice is too short for them it stays as it was, whatever the refusal. Later versions may append words to
- * a summary and never move one, and may add parameters: a program is compiled with the header of its library. A summary that has
- * only an earlier version's bytes is refused with 4.
+ * zeros; where the summary slice is too short for them it stays as it was, whatever the refusal.
  */
 #ifndef HOLZMOTTE_H
 #define HOLZMOTTE_H
@@ -34,6 +35,19 @@
 #ifdef __cplusplus
 extern "C" {
 #endif
+
+/* The version of this file and of the library that it belongs to. While the major number is 0, a new minor number may append words to a
+ * summary, and never moves one, and may add parameters; a new patch number does neither. A program is compiled with the header of its
+ * library. Compiled with an earlier one, for a shorter summary, it is refused with 4 by the later library, at every call that is not
+ * refused with a number that stands before 4. Nothing notices a call with too few parameters. */
+#define HOLZMOTTE_VERSION_MAJOR 0
+#define HOLZMOTTE_VERSION_MINOR 5
+#define HOLZMOTTE_VERSION_PATCH 0
+#define HOLZMOTTE_VERSION "0.5.0"
+
+/* So much stack is enough for a call. This is tested, not proved: measured on x86-64, sending takes up to 6.9 KB and receiving up to
+ * 7.4 KB; an earlier version took 7.5 KB and 7.2 KB on 64-bit Arm. */
+#define HOLZMOTTE_STACK_BYTES 16384
 
 /* Sizes, in bytes. */
 #define HOLZMOTTE_VECTOR_BYTES 10
@@ -56,15 +70,85 @@ extern "C" {
 #define HOLZMOTTE_NUMBER(result) ((int)((result) % 256))
 #define HOLZMOTTE_PLACE(result) ((uint64_t)((result) / 256))
 
-/* The refusal numbers that these functions give. (6, 7 and 8 speak of capture records.) */
+/* The refusal numbers. The functions here give 1 to 5; 6, 7 and 8 are for a program that reads capture records. */
 enum holzmotte_refusal {
     HOLZMOTTE_DONE = 0,
-    HOLZMOTTE_TOO_LONG = 1,    /* more than 1,000,000 vector bytes, or 825,000 line bytes */
-    HOLZMOTTE_RAGGED = 2,      /* vector bytes not a multiple of 40 */
-    HOLZMOTTE_START_STATE = 3, /* start state at or above 2^58 */
-    HOLZMOTTE_NO_ROOM = 4,     /* a slice that is written is too short */
-    HOLZMOTTE_CONTROL_BYTE = 5 /* a control byte above 15; its place is the byte offset of the first */
+    HOLZMOTTE_TOO_LONG = 1,     /* more than 1,000,000 vector bytes, or 825,000 line bytes */
+    HOLZMOTTE_RAGGED = 2,       /* vector bytes not a multiple of 40 */
+    HOLZMOTTE_START_STATE = 3,  /* start state at or above 2^58 */
+    HOLZMOTTE_NO_ROOM = 4,      /* a slice that is written is too short */
+    HOLZMOTTE_CONTROL_BYTE = 5, /* a control byte above 15; its place is the byte offset of the first */
+    HOLZMOTTE_RECORD_CUT = 6,   /* under four head bytes, or a body past the end */
+    HOLZMOTTE_RECORD_LONG = 7,  /* a body of more than 4,092 bytes */
+    HOLZMOTTE_RECORD_KIND = 8   /* a kind that is not 1 or 2, or not the one that the program takes */
 };
+
+/* A refusal number in words, for a person. */
+static inline const char *holzmotte_refusal_text(int number)
+{
+    switch (number) {
+    case HOLZMOTTE_DONE: return "done";
+    case HOLZMOTTE_TOO_LONG: return "too long: more than 1,000,000 bytes of vectors, or 825,000 of line";
+    case HOLZMOTTE_RAGGED: return "the vectors do not come in fours";
+    case HOLZMOTTE_START_STATE: return "the start state is 2^58 or above";
+    case HOLZMOTTE_NO_ROOM: return "a buffer is too short for the answer";
+    case HOLZMOTTE_CONTROL_BYTE: return "a control byte is above 15";
+    case HOLZMOTTE_RECORD_CUT: return "the file ends inside a record";
+    case HOLZMOTTE_RECORD_LONG: return "a record has a body of more than 4,092 bytes";
+    case HOLZMOTTE_RECORD_KIND: return "a record is of another kind than is read here";
+    default: return "unknown";
+    }
+}
+
+/* The control characters: what the octet of a lane means where its control bit is set. Where it is not, the octet is data. Besides these,
+ * 1c, 3c, 7c, bc, dc and f7 are valid, and reserved. Every other one, 06 too, is an error. */
+enum holzmotte_control_character {
+    HOLZMOTTE_IDLE = 0x07,
+    HOLZMOTTE_SIGNAL = 0x5c,    /* begins a signal ordered set, which is reserved: in lane 0, with data in lanes 1 to 3 */
+    HOLZMOTTE_SEQUENCE = 0x9c,  /* begins a sequence ordered set: in lane 0, with data in lanes 1 to 3, such as Local Fault */
+    HOLZMOTTE_START = 0xfb,     /* begins a frame: in lane 0, in place of the first octet of the preamble */
+    HOLZMOTTE_TERMINATE = 0xfd, /* ends a frame: in any lane, with control characters up to the end of the vector */
+    HOLZMOTTE_ERROR = 0xfe
+};
+
+/* Words and whole vectors, to initialise arrays: uint8_t vector[10] = HOLZMOTTE_IDLE_VECTOR, word[5] = {HOLZMOTTE_IDLE_WORD}; */
+#define HOLZMOTTE_IDLE_WORD 0x0f, 0x07, 0x07, 0x07, 0x07
+#define HOLZMOTTE_ERROR_WORD 0x0f, 0xfe, 0xfe, 0xfe, 0xfe
+#define HOLZMOTTE_LOCAL_FAULT_WORD 0x01, 0x9c, 0x00, 0x00, 0x01
+#define HOLZMOTTE_REMOTE_FAULT_WORD 0x01, 0x9c, 0x00, 0x00, 0x02
+#define HOLZMOTTE_IDLE_VECTOR {HOLZMOTTE_IDLE_WORD, HOLZMOTTE_IDLE_WORD}
+#define HOLZMOTTE_ERROR_VECTOR {HOLZMOTTE_ERROR_WORD, HOLZMOTTE_ERROR_WORD}
+#define HOLZMOTTE_LOCAL_FAULT_VECTOR {HOLZMOTTE_LOCAL_FAULT_WORD, HOLZMOTTE_LOCAL_FAULT_WORD}
+#define HOLZMOTTE_REMOTE_FAULT_VECTOR {HOLZMOTTE_REMOTE_FAULT_WORD, HOLZMOTTE_REMOTE_FAULT_WORD}
+
+/* Character i of a vector, 0 to 7, stands in lane i % 4 of word i / 4: is it a control character, and its octet.
+ *
+ * So 0f 07 07 07 07 01 fb 55 55 55 reads: control byte 0f, characters 0 to 3 are control, four idles; control byte 01, of characters 4
+ * to 7 the first is control, fb, a Start, and the others are data, 55 55 55. */
+static inline int holzmotte_is_control(const uint8_t *vector, int i) { return vector[i / 4 * 5] >> i % 4 & 1; }
+static inline uint8_t holzmotte_octet(const uint8_t *vector, int i) { return vector[i / 4 * 5 + 1 + i % 4]; }
+
+/* What receiving answers: one vector for each tested block, by the first of these that applies.
+ *   - The block leaves the receiver not locked, or the error rate high: the Local Fault vector. Lock comes with the 64th valid header in
+ *     a row, so at least the first 63 vectors of a line are this one.
+ *   - It leads to state E of the receive diagram (it is bad, or out of turn): the error vector.
+ *   - Else: the block, decoded.
+ * By the vector alone the first of these cannot be told from a Local Fault that the far end sent. The summary says whether the receiver is
+ * locked and the error rate high at the end of the line (words 2 and 3); for an earlier place receive the line up to there.
+ *
+ * What damage can do. Of the line sent for any accepted list, from any allowed start state, flip at most three bits, all in block 64 or
+ * later, never both header bits of one block. Receiving then answers each vector from number 63 on as the error vector, or with the same
+ * control flags, control characters and ordered set codes as the block that was sent; in the second case a data bit differs exactly when
+ * an odd number of flipped payload bits stand 0, 39 or 58 payload bits before it. This is proved; of other damage nothing is said.
+ *
+ * So data octets can change, and the vector does not show it: those of a frame, whose check sequence is not looked at here, and the three
+ * of an ordered set. Under such damage a Local Fault cannot become idle, but it can become a Remote Fault: 72 idle, 16 Local Fault, 12
+ * idle from state 0, bits 26 and 27 of block 80 flipped: vector 80 comes back as a Remote Fault (its first word; vector 81 is the error
+ * vector).
+ *
+ * So one vector proves no fault. Clause 46 (link fault signaling) takes a fault for given when four fault_sequences of the same value have
+ * come, with fewer than 128 columns between one and the next, and for gone after 128 columns without a fault_sequence. A column is a word
+ * here, and a fault_sequence a word of Local Fault or Remote Fault. */
 
 /* The words of the summaries: 64-bit numbers, least significant byte first, word i at byte 8 * i. */
 enum holzmotte_send_word {
@@ -142,6 +226,10 @@ static inline uint32_t holzmotte_counter(const uint8_t *counters, int i)
 
 /* Encodes and scrambles a list of vectors, from the transmit diagram's INIT.
  *
+ * The scrambler can go on from call to call: word 0 of the summary is the next start state. The diagram cannot. So a frame is not to be
+ * split over two calls: a list that begins inside a frame has its first vector sent as the error block. Where a list ends between frames
+ * (word 1 is C or T), its line and the next one's are together the line of both lists in one call.
+ *
  *   vectors      read: the list, a multiple of 40 bytes, at most HOLZMOTTE_MAX_VECTOR_BYTES
  *   start_state  below 2^58; bit i stands for the payload bit i + 1 places before the first
  *   line         written: HOLZMOTTE_LINE_ROOM(vectors_len) bytes
@@ -151,7 +239,7 @@ static inline uint32_t holzmotte_counter(const uint8_t *counters, int i)
 uint64_t holzmotte_send(const uint8_t *vectors, size_t vectors_len, uint64_t start_state,
                         uint8_t *line, size_t line_len, uint8_t *summary, size_t summary_len);
 
-/* Finds block lock in a line, from a fresh receiver, and gives a vector for each tested block.
+/* Finds block lock in a line, from a fresh receiver, and gives a vector for each tested block. Each call looks for lock anew.
  *
  *   line      read: at most HOLZMOTTE_MAX_LINE_BYTES; bits at its end that fill no block are not tested
  *   vectors   at least HOLZMOTTE_VECTOR_ROOM(line_len) bytes; written: ten for each tested block
