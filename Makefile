@@ -1,14 +1,23 @@
-# make demo     a small capture is sent, damaged and read back, in plain words
-# make test     the gate: every proof, every must-fail edit, every program and every outside check
-# make native   target/native/libholzmotte.a for the machine at hand
-# make bench    the library beside a hand-written version, timed in one run
-# make soak     comparisons with the second program from a new seed, until stopped
-.PHONY: test demo
+# make            lists these
+# make demo       a small capture is sent, damaged and read back, in plain words
+# make test       the gate: every proof, every must-fail edit, every program and every outside check
+# make native     target/native/libholzmotte.a for the machine at hand
+# make targets    the same for Android and Apple on 64-bit Arm: target/native/TARGET/libholzmotte.a, compiled and not run
+# make install    header, archive, shared library and pkg-config file, below $DESTDIR$PREFIX (PREFIX: /usr/local)
+# make uninstall  takes them away
+# make compare, make ctest, make examples, make rust: one outside check alone
+# make bench      the library beside a hand-written version, timed in one run
+# make soak       comparisons with the second program from a new seed, until stopped
+.PHONY: help test demo
 
+help:
+	@sed -n '/^#/!q; s/^# //p' $(firstword $(MAKEFILE_LIST))
+
+# exec, so that a signal to make's child is one to the gate or to the demonstration itself
 test:
-	@tools/gate
+	@tools/needs python3 && exec tools/gate
 
 demo:
-	@tools/demo
+	@tools/needs python3 && exec tools/demo
 
 include tools/outside.mk

@@ -1,10 +1,13 @@
-//! The fast version keeps the library's contract: same result and same bytes, on many short calls, refused ones too.
+//! The fast version keeps the library's contract: same result and same bytes, on many short calls, refused ones too, and on lines over
+//! several windows of the error rate.
 use crate::fast;
 use compare::library;
 use compare::lines::{control, idle, until_high, Line};
 use compare::lists;
 use compare::random::Random;
 use compare::reference::block::{put, Kind, FORMATS};
+use compare::reference::diagrams::WINDOW;
+use compare::reference::vector::LOCAL_FAULT;
 
 /// Calls both with lent slices of this content.
 fn same<const N: usize>(lent: [Vec<u8>; N], call: impl Fn(&mut [Vec<u8>; N], bool) -> u64) {
@@ -85,8 +88,36 @@ fn receiving_line(line: &Line, random: &mut Random) {
     same_received(&line, room, summary, random.counters(counters));
 }
 
+/// Invalid headers in one window after the other: 16 set `high`, and the end of a window with fewer clears it.
+const INVALID: [usize; 5] = [16, 15, 16, 16, 0];
+
+/// A line over whole windows, each with so many invalid headers, from its first block on or from its last block back; too far apart to
+/// lose lock. `high` is looked at where a window ends: its last block is already answered by it.
+fn receiving_windows(from_last: bool, random: &mut Random) {
+    let window = WINDOW as usize;
+    let mut line = Line::of_blocks(&vec![idle(); 64 + INVALID.len() * window + 4], random.start_state());
+    for (i, invalid) in INVALID.into_iter().enumerate() {
+        for n in 0..invalid {
+            let place = if from_last { window - 1 - 1_000 * n } else { 1_000 * n };
+            line.spoil_header(64 + i * window + place);
+        }
+    }
+    let line = line.bytes();
+    let (vectors, _) = library::received(&line);
+    for (i, invalid) in INVALID.into_iter().enumerate() {
+        let last = 64 + (i + 1) * window - 1;
+        let high = vectors[10 * last..10 * last + 10] == LOCAL_FAULT;
+        assert_eq!(high, invalid == 16, "high at the end of window {i}");
+    }
+    let room = 8 * line.len() / 66 * 10;
+    same_received(&line, room, library::RECEIVE_SUMMARY_BYTES, random.counters(library::COUNTERS_BYTES));
+}
+
 pub fn check() {
     let mut random = Random::new(3);
+    for from_last in [false, true] {
+        receiving_windows(from_last, &mut random);
+    }
     for _ in 0..2_000 {
         sending(&mut random);
         receiving(&mut random);
