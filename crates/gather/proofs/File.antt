@@ -1,20 +1,21 @@
--- Reading a file's records by windows, as a program has to, gathers what the reader on the whole file gathers.
+-- Reading a file's records by windows, as a program has to, gathers what the reader on the whole file gathers; and what a program has
+-- read when an end or a refusal comes is such a file.
 use Prim.Native.Nat.{ℕ, zero, suc, _+_, _-_, _*_, _≤_, _<_}
 use mathlib.Core.Path.{_≡_, refl, sym, ap, subst, _∙_}
 use mathlib.Core.Bool.{Bool, true, false, cond}
-use mathlib.Core.List.{List, [], _∷_, _++_}
+use mathlib.Core.List.{List, [], _∷_, _++_, append-nil}
 use native.Mathlib.Omega.{arith}
 use native.Mathlib.Nat.{le-refl}
 use lib.ListN.{length, take, drop, length-drop}
-use lib.Seq.{getD-take, getD-drop, take-all, length-take-le, drop-drop, take-take, take-add, drop-at}
-use lib.Dec.{ltb, leb}
+use lib.Seq.{getD-take, getD-drop, take-all, length-take-le, drop-drop, take-take, take-add, drop-at, take-append-le, drop-append-seam}
+use lib.Dec.{ltb, leb, eqb}
 use borrow.Author.Tests.{ltb-true, ltb-false, leb-true, leb-false, lt-ltb, le-ltb, le-leb, lt-leb}
 use Rattle.refusals.specs.First.{accepted, first, byVerdict}
 use Rattle.refusals.specs.First.{refused as refuses}
 use Rattle.records.specs.Record.{Answer, whole, end, refused, twoAt, unknownKind, notGroups, readChecks, readAt, bodyOf, wantedOf}
 use Rattle.records.proofs.Laws.{by-test, inside}
-use Rattle.gather.specs.Gather.{Gathered, more, done, stop, judged, next}
-use Rattle.gather.specs.File.{placeAfter, gathering, gatheredFrom, windowOf, windows, after}
+use Rattle.gather.specs.Gather.{Gathered, more, done, stop, failed, judged, next, Read, window, failure, nextRead}
+use Rattle.gather.specs.File.{placeAfter, gathering, gatheredFrom, windowOf, windows, after, Going, on, IsWindow, InTurn, bytesRead}
 
 -- An answer with its places counted from the head.
 abbrev pub rebased : Answer → Answer
@@ -167,19 +168,46 @@ module _ (limit : ℕ) where
     next-local file at (more bytes) = ap (judged kind most (windowOf limit (drop at file)) bytes) (read-local file at) ∙ judged-local file at bytes (readAt limit file at) refl
     next-local file at (done bytes) = refl
     next-local file at (stop n bytes) = refl
+    next-local file at (failed bytes) = refl
 
--- There was an end or a refusal.
+-- There was an end, a refusal or a failed read.
 pub data Over : Gathered → Type 0 where
   ended : (bytes : List ℕ) → Over (done bytes)
   stopped : (n : ℕ) (bytes : List ℕ) → Over (stop n bytes)
+  broken : (bytes : List ℕ) → Over (failed bytes)
+
+-- An end or a refusal came.
+pub data Settled : Gathered → Type 0 where
+  by-end : (bytes : List ℕ) → Settled (done bytes)
+  by-refusal : (n : ℕ) (bytes : List ℕ) → Settled (stop n bytes)
+
+-- Then it is over.
+settled : {g : Gathered} → Settled g → Over g
+settled (by-end b) = ended b
+settled (by-refusal n b) = stopped n b
+
+-- No read failed.
+data Sound : Gathered → Type 0 where
+  so-far : (bytes : List ℕ) → Sound (more bytes)
+  at-end : (bytes : List ℕ) → Sound (done bytes)
+  at-stop : (n : ℕ) (bytes : List ℕ) → Sound (stop n bytes)
+
+-- So it is over by an end or a refusal.
+by-either : {g : Gathered} → Over g → Sound g → Settled g
+by-either (ended b) s = by-end b
+by-either (stopped n b) s = by-refusal n b
 
 module _ (limit kind most : ℕ) where
   -- From then on nothing changes.
-  still : (ws : List (List ℕ)) {g : Gathered} → Over g → after limit kind most ws g ≡ g
+  still : (rs : List Read) {g : Gathered} → Over g → after limit kind most rs g ≡ g
   unfolding after
   still [] o = refl
-  still (w ∷ ws) (ended b) = still ws (ended b)
-  still (w ∷ ws) (stopped n b) = still ws (stopped n b)
+  still (window w ∷ rs) (ended b) = still rs (ended b)
+  still (window w ∷ rs) (stopped n b) = still rs (stopped n b)
+  still (window w ∷ rs) (broken b) = still rs (broken b)
+  still (failure ∷ rs) (ended b) = still rs (ended b)
+  still (failure ∷ rs) (stopped n b) = still rs (stopped n b)
+  still (failure ∷ rs) (broken b) = still rs (broken b)
 
   -- The same of the whole file.
   still-file : (n : ℕ) (file : List ℕ) (at : ℕ) {g : Gathered} → Over g → gathering limit kind most n file at g ≡ g
@@ -187,18 +215,21 @@ module _ (limit kind most : ℕ) where
   still-file zero file at o = refl
   still-file (suc n) file at (ended b) = still-file n file (placeAfter at (readAt limit file at)) (ended b)
   still-file (suc n) file at (stopped m b) = still-file n file (placeAfter at (readAt limit file at)) (stopped m b)
+  still-file (suc n) file at (broken b) = still-file n file (placeAfter at (readAt limit file at)) (broken b)
 
   -- Where the reader finds no whole record it is over.
   over-end : (s : List ℕ) (at : ℕ) (g : Gathered) → readAt limit s at ≡ end → Over (next limit kind most s at g)
   over-end s at (more b) e = rw e (ended b)
   over-end s at (done b) e = ended b
   over-end s at (stop n b) e = stopped n b
+  over-end s at (failed b) e = broken b
 
   -- The same for a refusal.
   over-refused : (s : List ℕ) (at : ℕ) (g : Gathered) (m p : ℕ) → readAt limit s at ≡ refused m p → Over (next limit kind most s at g)
   over-refused s at (more b) m p e = rw e (stopped m b)
   over-refused s at (done b) m p e = ended b
   over-refused s at (stop n b) m p e = stopped n b
+  over-refused s at (failed b) m p e = broken b
 
   -- From one record to the next, where the rest of the file is done by `ih`.
   onward : (n : ℕ) (file : List ℕ) → ((at : ℕ) (g : Gathered) → after limit kind most (windows limit n (drop at file)) g ≡ gathering limit kind most n file at g)
@@ -241,12 +272,96 @@ module _ (limit kind most : ℕ) where
   pub whole-file : (file : List ℕ) → after limit kind most (windows limit (suc (length file)) file) (more []) ≡ gatheredFrom limit kind most file
   whole-file file = by-windows (suc (length file)) file 0 (more [])
 
-  -- After all records of a file there was an end or a refusal.
-  pub over : (file : List ℕ) → Over (gatheredFrom limit kind most file)
-  over file = enough (length file) file 0 (more []) (omega arith)
+  -- A record brings no failed read.
+  judged-sound : (s bytes : List ℕ) (a : Answer) → Sound (judged kind most s bytes a)
+  unfolding first
+  judged-sound s bytes end = at-end bytes
+  judged-sound s bytes (refused n p) = at-stop n bytes
+  judged-sound s bytes (whole k start len nx) =
+      by-test (eqb k kind)
+      (λ t. by-test (ltb most (length bytes + len)) (λ u. simp (t, u) (at-stop 1 bytes)) (λ u. simp (t, u) (so-far (bytes ++ bodyOf s start len))))
+      (λ t. simp t (at-stop 8 bytes))
 
-  -- One window more.
-  pub after-one : (ws : List (List ℕ)) (w : List ℕ) (g : Gathered) → after limit kind most (ws ++ w ∷ []) g ≡ next limit kind most w 0 (after limit kind most ws g)
+  -- The same of one step.
+  next-sound : (s : List ℕ) (at : ℕ) {g : Gathered} → Sound g → Sound (next limit kind most s at g)
+  next-sound s at (so-far b) = judged-sound s b (readAt limit s at)
+  next-sound s at (at-end b) = at-end b
+  next-sound s at (at-stop n b) = at-stop n b
+
+  -- And of all records of a file.
+  file-sound : (n : ℕ) (file : List ℕ) (at : ℕ) {g : Gathered} → Sound g → Sound (gathering limit kind most n file at g)
+  unfolding gathering
+  file-sound zero file at s = s
+  file-sound (suc n) file at s = file-sound n file (placeAfter at (readAt limit file at)) (next-sound file at s)
+
+  -- After all records of a file there was an end or a refusal.
+  pub over : (file : List ℕ) → Settled (gatheredFrom limit kind most file)
+  over file = by-either (enough (length file) file 0 (more []) (omega arith)) (file-sound (suc (length file)) file 0 (so-far []))
+
+  -- More records than are needed change nothing.
+  as-many : (n m : ℕ) (file : List ℕ) (at : ℕ) (g : Gathered) → Over (gathering limit kind most n file at g) → Over (gathering limit kind most m file at g) → gathering limit kind most n file at g ≡ gathering limit kind most m file at g
+  unfolding gathering
+  as-many zero m file at g o p = sym (still-file m file at o)
+  as-many (suc n) zero file at g o p = still-file (suc n) file at p
+  as-many (suc n) (suc m) file at g o p = as-many n m file (placeAfter at (readAt limit file at)) (next limit kind most file at g) o p
+
+  -- One read more.
+  pub after-one : (rs : List Read) (r : Read) (g : Gathered) → after limit kind most (rs ++ r ∷ []) g ≡ nextRead limit kind most r (after limit kind most rs g)
   unfolding after
-  after-one [] w g = refl
-  after-one (v ∷ ws) w g = after-one ws w (next limit kind most v 0 g)
+  after-one [] r g = refl
+  after-one (q ∷ rs) r g = after-one rs r (nextRead limit kind most q g)
+
+  -- It is made in its turn.
+  pub in-turn-one : (rs : List Read) (r : Read) (g : Gathered) → InTurn limit kind most rs g → Going (after limit kind most rs g) → IsWindow limit r → InTurn limit kind most (rs ++ r ∷ []) g
+  unfolding after
+  in-turn-one [] r g t o w = (o, w, tt)
+  in-turn-one (q ∷ rs) r g t o w = (t .0, t .1, in-turn-one rs r (nextRead limit kind most q g) (t .2) o w)
+
+-- Where a read failed neither came.
+unsettled : {C : Type 0} {bytes : List ℕ} → Settled (failed bytes) → C
+unsettled = elim [ ]
+
+-- And then no more is read.
+ungoing : {C : Type 0} {bytes : List ℕ} → Going (failed bytes) → C
+ungoing = elim [ ]
+
+-- Reads of which the last brought an end or a refusal are the windows of the bytes that were read.
+module _ (limit : ℕ) where
+  -- What stands behind a whole window does not change it.
+  window-front : (w rest : List ℕ) → 4 + wantedOf limit (take 4 w) ≤ length w → windowOf limit w ≡ w → windowOf limit (w ++ rest) ≡ w
+  unfolding windowOf
+  window-front w rest h e =
+      ap (λ (head : List ℕ). take (4 + wantedOf limit head) (w ++ rest)) (take-append-le 4 w rest (omega arith))
+      ∙ take-append-le (4 + wantedOf limit (take 4 w)) w rest h
+      ∙ e
+
+  module _ (kind most : ℕ) where
+    -- A window after which the gathering goes on is whole.
+    going-whole : (w bytes : List ℕ) (a : Answer) → readAt limit w 0 ≡ a → Going (judged kind most w bytes a) → 4 + wantedOf limit (take 4 w) ≤ length w
+    going-whole w bytes (whole k start len nx) e o =
+        let i = inside limit w 0 k start len nx e in
+        omega (arith, wanted-len limit w (omega (arith, i .fits, i .start-is)) (omega (arith, i .small, i .len-is)), i .fits, i .start-is, i .len-is)
+
+    -- So are all reads but the last, and the last is what was left.
+    pub reads-are : (r : Read) (rs : List Read) {g : Gathered} → Going g → IsWindow limit r → InTurn limit kind most rs (nextRead limit kind most r g)
+        → Settled (after limit kind most rs (nextRead limit kind most r g)) → windows limit (suc (length rs)) (bytesRead (r ∷ rs)) ≡ r ∷ rs
+    unfolding after windows
+    reads-are failure [] (on b) i t s = unsettled s
+    reads-are failure (q ∷ rs) (on b) i t s = ungoing (t .0)
+    reads-are (window w) [] o i t s = ap (λ (l : List ℕ). window l ∷ []) (ap (windowOf limit) (append-nil w) ∙ i)
+    reads-are (window w) (q ∷ rs) (on b) i t s =
+        let rest = bytesRead (q ∷ rs) in
+        let f = window-front w rest (going-whole w b (readAt limit w 0) refl (t .0)) i in
+        let d : drop (length (windowOf limit (w ++ rest))) (w ++ rest) ≡ rest = ap (λ (l : List ℕ). drop (length l) (w ++ rest)) f ∙ drop-append-seam w rest in
+        ap (λ (l : List ℕ). window l ∷ windows limit (suc (length rs)) (drop (length (windowOf limit (w ++ rest))) (w ++ rest))) f
+        ∙ ap (λ (l : List ℕ). window w ∷ windows limit (suc (length rs)) l) d
+        ∙ ap (λ (l : List Read). window w ∷ l) (reads-are q rs (t .0) (t .1) (t .2) s)
+
+    -- What they come to is what the definition says of the file that was read.
+    pub file-read : (rs : List Read) → InTurn limit kind most rs (more []) → Settled (after limit kind most rs (more [])) → after limit kind most rs (more []) ≡ gatheredFrom limit kind most (bytesRead rs)
+    unfolding after
+    file-read (r ∷ rs) t s =
+        let file = bytesRead (r ∷ rs) in
+        let e : after limit kind most (r ∷ rs) (more []) ≡ gathering limit kind most (suc (length rs)) file 0 (more []) =
+        ap (λ (l : List Read). after limit kind most l (more [])) (sym (reads-are r rs (t .0) (t .1) (t .2) s)) ∙ by-windows limit kind most (suc (length rs)) file 0 (more []) in
+        e ∙ as-many limit kind most (suc (length rs)) (suc (length file)) file 0 (more []) (subst Over e (settled s)) (settled (over limit kind most file))

@@ -1,6 +1,6 @@
 -- What judging one record comes to, in each of the cases that the code tells apart: the step's number, and the whole store.
 use Prim.Native.Nat.{ℕ, _+_, _-_, _≤_, _<_}
-use mathlib.Core.Path.{_≡_, refl, sym, ap, _∙_}
+use mathlib.Core.Path.{_≡_, refl, sym, ap, subst, _∙_}
 use mathlib.Core.List.{List, _++_}
 use native.Mathlib.Omega.{arith}
 use native.Mathlib.Nat.{le-refl}
@@ -13,7 +13,11 @@ use Rattle.place.specs.Placed.{placed}
 use Rattle.place.proofs.Laws.{placed-on}
 use Rattle.records.specs.Record.{Answer, whole, end, refused, readAt, bodyOf}
 use Rattle.records.proofs.Laws.{by-test, body-length}
-use Rattle.gather.specs.Gather.{judged, Gathered, more, next, bytesIn, Turn, soFar, inAll, refusal, turnIn}
+use Rattle.gather.specs.Gather.{judged, Gathered, more, next, Read, window, failure, nextRead, readOf, bytesIn, Turn, soFar, inAll, refusal, turnIn, Shows}
+use Rattle.gather.specs.declared.Got.{Got}
+use Rattle.gather.specs.declared.Got.the-variants as Came
+use Rattle.gather.specs.declared.Step as S
+use Rattle.gather.specs.declared.Step.the-variants as Case
 
 -- What is gathered stays in the store, from its start on.
 pub kept : (used : ℕ) (store : List ℕ) → used ≤ length store → placed 0 (take used store) store ≡ store
@@ -68,6 +72,20 @@ module _ (limit kind used : ℕ) (w store : List ℕ) (fits : used ≤ length st
         let l : length (take used store ++ bodyOf w start len) ≡ used + len = omega (arith, length-append (take used store) (bodyOf w start len), length-take-le used store fits, n) in
         simp (found, eq-eqb k kind e, t) (ap soFar (sym l), x ∙ ap (λ (p : List ℕ). placed used p store) b ∙ grown used store (bodyOf w start len) (omega (arith, n)))
 
+-- What reading came to, told apart.
+module _ (limit kind used : ℕ) (got : Got) (buffer store : List ℕ) where
+  -- What judging answers and leaves in the store, where reading came to that.
+  abbrev Answers : S.Step → List ℕ → Got → Type 0
+  Answers step exit came = Shows (nextRead limit kind (length store) (readOf came buffer) (more (take used store))) store step exit
+
+  -- It came to that.
+  pub came-to : (came : Got) (step : S.Step) (exit : List ℕ) → got ≡ came → Answers step exit came → Answers step exit got
+  came-to came step exit e = subst (Answers step exit) (sym e)
+
+  -- A read failed.
+  pub read-failed : used ≤ length store → got ≡ Came.Failed → Answers Case.Failed store got
+  read-failed fits e = came-to Came.Failed Case.Failed store e (refl, sym (kept used store fits))
+
 -- What is gathered only grows, up to the most that is gathered.
 grows-on : (limit kind most : ℕ) (s : List ℕ) (at : ℕ) (bytes : List ℕ) (a : Answer) → length bytes ≤ most → readAt limit s at ≡ a
     → (length bytes ≤ length (bytesIn (judged kind most s bytes a))) × (length (bytesIn (judged kind most s bytes a)) ≤ most)
@@ -84,7 +102,8 @@ grows-on limit kind most s at bytes (whole k start len nx) h e =
     simp (t, u) (omega arith, omega arith)))
     (λ t. simp t (le-refl (length bytes), h))
 
--- The same of one step.
-pub grows : (limit kind most : ℕ) (s : List ℕ) (at : ℕ) (bytes : List ℕ) → length bytes ≤ most
-    → let g = next limit kind most s at (more bytes) in (length bytes ≤ length (bytesIn g)) × (length (bytesIn g) ≤ most)
-grows limit kind most s at bytes h = grows-on limit kind most s at bytes (readAt limit s at) h refl
+-- The same of one read.
+pub grows : (limit kind most : ℕ) (r : Read) (bytes : List ℕ) → length bytes ≤ most
+    → let g = nextRead limit kind most r (more bytes) in (length bytes ≤ length (bytesIn g)) × (length (bytesIn g) ≤ most)
+grows limit kind most (window w) bytes h = grows-on limit kind most w 0 bytes (readAt limit w 0) h refl
+grows limit kind most failure bytes h = (le-refl (length bytes), h)

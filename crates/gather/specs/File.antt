@@ -1,9 +1,10 @@
--- A whole file's records, and the windows by which a program reads them.
+-- A whole file's records, the windows by which a program reads them, and what its reads come to.
 use Prim.Native.Nat.{ℕ, zero, suc, _+_}
-use mathlib.Core.List.{List, [], _∷_}
+use mathlib.Core.Path.{_≡_}
+use mathlib.Core.List.{List, [], _∷_, _++_}
 use lib.ListN.{length, take, drop}
 use Rattle.records.specs.Record.{Answer, whole, end, refused, readAt, wantedOf}
-use Rattle.gather.specs.Gather.{Gathered, more, next}
+use Rattle.gather.specs.Gather.{Gathered, more, next, Read, window, failure, nextRead}
 
 -- where the record after this one stands: the same place where there is none
 abbrev pub placeAfter : (at : ℕ) → Answer → ℕ
@@ -25,11 +26,31 @@ unfoldable pub windowOf : (limit : ℕ) (rest : List ℕ) → List ℕ
 windowOf limit rest = take (4 + wantedOf limit (take 4 rest)) rest
 
 -- the first n windows of the rest of a file, as they are read one after the other
-unfoldable pub windows : (limit n : ℕ) (rest : List ℕ) → List (List ℕ)
+unfoldable pub windows : (limit n : ℕ) (rest : List ℕ) → List Read
 windows limit zero rest = []
-windows limit (suc n) rest = windowOf limit rest ∷ windows limit n (drop (length (windowOf limit rest)) rest)
+windows limit (suc n) rest = window (windowOf limit rest) ∷ windows limit n (drop (length (windowOf limit rest)) rest)
 
--- after these windows, in order
-unfoldable pub after : (limit kind most : ℕ) (windows : List (List ℕ)) → Gathered → Gathered
+-- after these reads, in order
+unfoldable pub after : (limit kind most : ℕ) (reads : List Read) → Gathered → Gathered
 after limit kind most [] g = g
-after limit kind most (w ∷ ws) g = after limit kind most ws (next limit kind most w 0 g)
+after limit kind most (r ∷ rs) g = after limit kind most rs (nextRead limit kind most r g)
+
+-- no end, no refusal and no failed read yet
+pub data Going : Gathered → Type 0 where
+  on : (bytes : List ℕ) → Going (more bytes)
+
+-- a read that did not fail is one window: no more than a head and what it asks for
+abbrev pub IsWindow : (limit : ℕ) → Read → Type 0
+IsWindow limit (window bytes) = windowOf limit bytes ≡ bytes
+IsWindow limit failure = Unit {0}
+
+-- reads as a program makes them: window by window, and none after an end, a refusal or a failed read
+abbrev pub InTurn : (limit kind most : ℕ) (reads : List Read) → Gathered → Type 0
+InTurn limit kind most [] g = Unit {0}
+InTurn limit kind most (r ∷ rs) g = Going g × IsWindow limit r × InTurn limit kind most rs (nextRead limit kind most r g)
+
+-- the bytes that were read, one after the other
+abbrev pub bytesRead : List Read → List ℕ
+bytesRead [] = []
+bytesRead (window bytes ∷ rs) = bytes ++ bytesRead rs
+bytesRead (failure ∷ rs) = bytesRead rs

@@ -1,2 +1,5 @@
+pub mod Answers
+pub mod Parts
+pub mod Windows
 pub mod Turns
 pub mod Unique

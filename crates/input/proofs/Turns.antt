@@ -5,125 +5,117 @@ use mathlib.Core.List.{List, [], _∷_, _++_}
 use native.Mathlib.Omega.{arith}
 use lib.ListN.{length, take, length-append}
 use lib.Seq.{length-take-le}
-use Rattle.refusals.specs.Number.{numberOf}
-use Rattle.refusals.specs.declared.Refusal.{Refusal}
+use types.Run.{OneOf, miss}
+use denote.Enum.Declared.{tagOf}
 use Rattle.place.specs.Placed.{placed}
 use Rattle.place.proofs.Laws.{placed-none, placed-length, placed-over, placed-take}
 use Rattle.records.specs.Record.{bodyLimit}
-use Rattle.gather.specs.Gather.{Gathered, more, done, stop, next, bytesIn, Turn, soFar, inAll, refusal, turnIn, turnOf}
-use Rattle.gather.specs.File.{after}
+use Rattle.gather.specs.Gather.{Gathered, more, done, stop, failed, Read, nextRead, readOf, bytesIn, soFar, turnIn, turnOf, Shows}
+use Rattle.gather.specs.File.{after, Going, on, InTurn}
+use Rattle.gather.specs.declared.Got.{Got}
 use Rattle.gather.specs.declared.Step.{Step}
-use Rattle.gather.proofs.File.{after-one}
+use Rattle.gather.specs.declared.Step.the-variants as Case
+use Rattle.gather.proofs.Step.{the-type}
+use Rattle.gather.proofs.File.{after-one, in-turn-one}
 use Rattle.gather.proofs.Judged.{grows}
-use Rattle.input.specs.Read.{OneWindow, Turned, outcomeIn, Gathers}
-use Rattle.input.specs.declared.Window.{Window}
-use Rattle.input.specs.declared.Window.the-variants as One
-use Rattle.input.specs.declared.Outcome.{Outcome}
-use Rattle.input.specs.declared.Outcome.the-variants as All
+use Rattle.input.specs.Read.{WindowIn, Gathers}
+use Rattle.input.proofs.Windows.{is-window}
 
--- Windows were read, there was neither an end nor a refusal, and the store holds from its start on what they gave.
-pub record Going (kind : ℕ) (entry store : List ℕ) (used turns : ℕ) : Type 0 where
-  pub windows : List (List ℕ)
-  pub held : after bodyLimit kind (length entry) windows (more []) ≡ more (take used store)
+-- Reads were made, there was no end, no refusal and no failed read, and the store holds from its start on what they gave.
+pub record SoFar (kind : ℕ) (entry store : List ℕ) (used turns : ℕ) : Type 0 where
+  pub reads : List Read
+  pub in-turn : InTurn bodyLimit kind (length entry) reads (more [])
+  pub held : after bodyLimit kind (length entry) reads (more []) ≡ more (take used store)
   pub kept : store ≡ placed 0 (take used store) entry
   pub same : length store ≡ length entry
   pub fits : used ≤ length store
-  pub count : length windows + turns ≡ 2 ^ 64 - 1
+  pub count : length reads + turns ≡ 2 ^ 64 - 1
 
 -- Nothing is read at first.
-pub going-first : (kind : ℕ) (store : List ℕ) → Going kind store store 0 (2 ^ 64 - 1)
+pub turn-first : (kind : ℕ) (store : List ℕ) → SoFar kind store store 0 (2 ^ 64 - 1)
 unfolding after
-going-first kind store = record { windows = []; held = refl; kept = sym (placed-none 0 store); same = refl; fits = omega arith; count = refl }
+turn-first kind store = record { reads = []; in-turn = tt; held = refl; kept = sym (placed-none 0 store); same = refl; fits = omega arith; count = refl }
 
 -- More records may come only where the gathering stands so.
 still-more : (g : Gathered) (n : ℕ) → soFar n ≡ turnIn g → (g ≡ more (bytesIn g)) × (length (bytesIn g) ≡ n)
 still-more (more b) n e = (refl, cc)
 still-more (done b) n e = absurd (let z : _≡_ {A = ℕ} 0 1 = cc in omega arith)
 still-more (stop k b) n e = absurd (let z : _≡_ {A = ℕ} 0 1 = cc in omega arith)
+still-more (failed b) n e = absurd (let z : _≡_ {A = ℕ} 0 1 = cc in omega arith)
 
-module _ (kind used turns : ℕ) (entry store exit : List ℕ) (turn : Turn) (g : Going kind entry store used turns) (o : OneWindow kind used store turn exit) where
+-- The other cases of a step have the tags 1, 2 and 3.
+pub no-more : (step : Step) → OneOf (1 ∷ 2 ∷ 3 ∷ []) (tagOf the-type step) → (n : ℕ) → turnOf step ≡ soFar n → ⊥
+no-more (Case.More m) o n e = miss (1 ∷ 2 ∷ 3 ∷ []) 0 tt o
+no-more (Case.Done m) o n e = absurd (let z : _≡_ {A = ℕ} 0 1 = cc in omega arith)
+no-more (Case.Refused why) o n e = absurd (let z : _≡_ {A = ℕ} 0 1 = cc in omega arith)
+no-more Case.Failed o n e = absurd (let z : _≡_ {A = ℕ} 0 1 = cc in omega arith)
+
+module _ (kind used turns : ℕ) (entry store exit : List ℕ) (step : Step) (got : Got) (buffer : List ℕ) (g : SoFar kind entry store used turns) (w : WindowIn buffer got)
+    (s : Shows (nextRead bodyLimit kind (length store) (readOf got buffer) (more (take used store))) store step exit) where
+  -- what was read
+  abbrev r : Read
+  r = readOf got buffer
+
   -- where the gathering then stands
   abbrev then : Gathered
-  then = next bodyLimit kind (length store) (o .window) 0 (more (take used store))
+  then = nextRead bodyLimit kind (length store) r (more (take used store))
 
-  -- the windows read by then
-  abbrev read : List (List ℕ)
-  read = g .windows ++ o .window ∷ []
+  -- the reads made by then
+  abbrev made : List Read
+  made = g .reads ++ r ∷ []
 
-  -- The windows read by then give that.
-  joined : after bodyLimit kind (length entry) read (more []) ≡ then
+  -- They were made in turn.
+  turned : InTurn bodyLimit kind (length entry) made (more [])
+  turned = in-turn-one bodyLimit kind (length entry) (g .reads) r (more []) (g .in-turn) (subst Going (sym (g .held)) (on (take used store))) (is-window buffer got w)
+
+  -- They give that.
+  joined : after bodyLimit kind (length entry) made (more []) ≡ then
   joined =
-      after-one bodyLimit kind (length entry) (g .windows) (o .window) (more [])
-      ∙ ap (next bodyLimit kind (length entry) (o .window) 0) (g .held)
-      ∙ ap (λ (n : ℕ). next bodyLimit kind n (o .window) 0 (more (take used store))) (sym (g .same))
+      after-one bodyLimit kind (length entry) (g .reads) r (more [])
+      ∙ ap (nextRead bodyLimit kind (length entry) r) (g .held)
+      ∙ ap (λ (n : ℕ). nextRead bodyLimit kind n r (more (take used store))) (sym (g .same))
 
   -- What is gathered only grows, and fits the store.
   bounds : (length (take used store) ≤ length (bytesIn then)) × (length (bytesIn then) ≤ length store)
-  bounds = grows bodyLimit kind (length store) (o .window) 0 (take used store) (let l = length-take-le used store (g .fits) in omega (arith, g .fits))
+  bounds = grows bodyLimit kind (length store) r (take used store) (let l = length-take-le used store (g .fits) in omega (arith, g .fits))
 
   -- The store holds it from its start on.
   stored : exit ≡ placed 0 (bytesIn then) entry
-  stored = o .store ∙ ap (placed 0 (bytesIn then)) (g .kept) ∙ placed-over (take used store) (bytesIn then) entry (bounds .0) (let b = bounds .1 in omega (arith, g .same))
+  stored = s .1 ∙ ap (placed 0 (bytesIn then)) (g .kept) ∙ placed-over (take used store) (bytesIn then) entry (bounds .0) (let b = bounds .1 in omega (arith, g .same))
 
   -- The outcome, where it is over.
-  over : (end : Outcome) → turn ≡ outcomeIn end then → (end ≡ All.Unended → length read ≡ 2 ^ 64 - 1) → Gathers kind entry end exit
-  over end e many =
+  pub turn-last : ((n : ℕ) → turnOf step ≡ soFar n → ⊥) → Gathers kind entry step exit
+  turn-last over =
       record {
-        windows = read;
-        outcome = ap turnIn joined ∙ sym (o .step) ∙ e ∙ ap (outcomeIn end) (sym joined);
-        store = stored ∙ ap (λ (x : Gathered). placed 0 (bytesIn x) entry) (sym joined);
-        many = many;
+        reads = made;
+        in-turn = turned;
+        shows = (s .0 ∙ ap turnIn (sym joined), stored ∙ ap (λ (x : Gathered). placed 0 (bytesIn x) entry) (sym joined));
+        many = λ n e. absurd (over n e);
       }
-
-  -- The records ended.
-  pub turn-done : (n : ℕ) → turn ≡ inAll n → Gathers kind entry (All.Gathered n) exit
-  turn-done n e = over (All.Gathered n) e (λ z. absurd (let y : _≡_ {A = ℕ} 0 1 = cc in omega arith))
-
-  -- A record was refused.
-  pub turn-refused : (why : Refusal) → turn ≡ refusal (numberOf why) → Gathers kind entry (All.Refused why) exit
-  turn-refused why e = over (All.Refused why) e (λ z. absurd (let y : _≡_ {A = ℕ} 0 1 = cc in omega arith))
 
   -- A record was taken.
-  pub turn-more : (n : ℕ) → turn ≡ soFar n → 0 < turns → Going kind entry exit n (turns - 1)
+  pub turn-more : (n : ℕ) → step ≡ Case.More n → 0 < turns → SoFar kind entry exit n (turns - 1)
   turn-more n e h =
-      let m = still-more then n (sym e ∙ o .step) in
+      let m = still-more then n (sym (ap turnOf e) ∙ s .0) in
       let b = bounds .1 in
-      let t : take n exit ≡ bytesIn then = ap (λ (k : ℕ). take k exit) (sym (m .1)) ∙ ap (take (length (bytesIn then))) stored ∙ placed-take (bytesIn then) entry in
+      let u : take n exit ≡ bytesIn then = ap (λ (k : ℕ). take k exit) (sym (m .1)) ∙ ap (take (length (bytesIn then))) stored ∙ placed-take (bytesIn then) entry in
       let l : length exit ≡ length entry = ap length stored ∙ placed-length 0 (bytesIn then) entry (omega (arith, g .same)) in
       record {
-        windows = read;
-        held = joined ∙ m .0 ∙ ap more (sym t);
-        kept = stored ∙ ap (λ (x : List ℕ). placed 0 x entry) (sym t);
+        reads = made;
+        in-turn = turned;
+        held = joined ∙ m .0 ∙ ap more (sym u);
+        kept = stored ∙ ap (λ (x : List ℕ). placed 0 x entry) (sym u);
         same = l;
         fits = omega (arith, g .same, m .1);
-        count = omega (arith, length-append (g .windows) (o .window ∷ []), g .count);
+        count = omega (arith, length-append (g .reads) (r ∷ []), g .count);
       }
 
-module _ (kind used turns : ℕ) (entry store : List ℕ) (g : Going kind entry store used turns) where
-  -- The outcome where no end was seen.
-  open-end : (end : Outcome) → ((x : Gathered) → outcomeIn end x ≡ soFar (length (bytesIn x))) → (end ≡ All.Unended → length (g .windows) ≡ 2 ^ 64 - 1) → (exit : List ℕ) → exit ≡ store → Gathers kind entry end exit
-  open-end end f many exit s =
-      record {
-        windows = g .windows;
-        outcome = ap turnIn (g .held) ∙ ap (λ (x : Gathered). soFar (length (bytesIn x))) (sym (g .held)) ∙ sym (f (after bodyLimit kind (length entry) (g .windows) (more [])));
-        store = s ∙ g .kept ∙ ap (λ (x : Gathered). placed 0 (bytesIn x) entry) (sym (g .held));
-        many = many;
-      }
-
-  -- A read failed.
-  pub failed : (exit : List ℕ) → exit ≡ store → Gathers kind entry All.Failed exit
-  failed = open-end All.Failed (λ x. refl) (λ z. absurd (let y : _≡_ {A = ℕ} 0 1 = cc in omega arith))
-
-  -- The turns were used up.
-  pub unended : turns ≡ 0 → Gathers kind entry All.Unended store
-  unended z = open-end All.Unended (λ x. refl) (λ e. omega (arith, g .count)) store refl
-
--- The two cases of one turn.
-module _ (kind used : ℕ) (entry exit : List ℕ) (r : Window) (t : Turned kind used entry r exit) where
-  -- The record was judged.
-  pub was-judged : (step : Step) → r ≡ One.Judged step → OneWindow kind used entry (turnOf step) exit
-  was-judged step e = subst (λ (w : Window). Turned kind used entry w exit) e t
-
-  -- A read failed.
-  pub was-failed : r ≡ One.Failed → exit ≡ entry
-  was-failed e = subst (λ (w : Window). Turned kind used entry w exit) e t
+-- The turns were used up.
+pub turns-up : (kind used turns : ℕ) (entry store : List ℕ) → SoFar kind entry store used turns → turns ≡ 0 → Gathers kind entry (Case.More used) store
+turns-up kind used turns entry store g z =
+    record {
+      reads = g .reads;
+      in-turn = g .in-turn;
+      shows = (ap soFar (sym (length-take-le used store (g .fits))) ∙ ap turnIn (sym (g .held)), g .kept ∙ ap (λ (x : Gathered). placed 0 (bytesIn x) entry) (sym (g .held)));
+      many = λ n e. omega (arith, g .count);
+    }

@@ -1,47 +1,53 @@
--- What can be said of a program's reading: there are windows that were read in turn, and the outcome and the store are theirs. Which
--- windows they are is the operating system's; that a file's windows give the file's records is a law of the crate `gather`.
-use Prim.Native.Nat.{ℕ, _-_, _^_}
+-- What can be said of a program's reading. Which bytes a read puts into a buffer is the operating system's: the promises say how many they
+-- are, that the others stay, and that there are reads for which the outcome and the store are the definition's.
+use Prim.Native.Nat.{ℕ, zero, suc, _+_, _-_, _^_, _≤_, _<_, min}
 use mathlib.Core.Path.{_≡_}
 use mathlib.Core.List.{List, []}
-use lib.ListN.{length, take}
-use Rattle.refusals.specs.Number.{numberOf}
-use Rattle.place.specs.Placed.{placed}
-use Rattle.records.specs.Record.{bodyLimit}
-use Rattle.gather.specs.Gather.{Gathered, more, next, bytesIn, Turn, soFar, inAll, refusal, turnIn, turnOf}
-use Rattle.gather.specs.File.{after}
-use Rattle.input.specs.declared.Got.{Got}
-use Rattle.input.specs.declared.Got.the-variants as Read
-use Rattle.input.specs.declared.Window.{Window}
-use Rattle.input.specs.declared.Window.the-variants as One
-use Rattle.input.specs.declared.Outcome.{Outcome}
-use Rattle.input.specs.declared.Outcome.the-variants as All
+use lib.ListN.{length, take, drop}
+use lib.IntN.{ℤ, pos, negsuc}
+use Rattle.records.specs.Record.{bodyLimit, wantedOf}
+use Rattle.gather.specs.Gather.{more, Read, soFar, turnOf, Shows}
+use Rattle.gather.specs.File.{after, InTurn}
+use Rattle.gather.specs.declared.Got.{Got}
+use Rattle.gather.specs.declared.Got.the-variants as Came
+use Rattle.gather.specs.declared.Step.{Step}
 
--- how many bytes were read
-abbrev pub bytesOf : Got → ℕ
-bytesOf (Read.Bytes n) = n
-bytesOf Read.Failed = 0
+-- what one read of n bytes came to, by its answer: a negative number, it failed; 0, the input ended; else so many bytes, at most those asked for
+unfoldable pub gotBy : (answer : ℤ) (n : ℕ) → Got
+gotBy (negsuc k) n = Came.Failed
+gotBy (pos zero) n = Came.End 0
+gotBy (pos (suc k)) n = Came.Bytes (min (suc k) n)
 
--- a window was read, and this is what it comes to
-pub record OneWindow (kind used : ℕ) (entry : List ℕ) (turn : Turn) (exit : List ℕ) : Type 0 where
-  pub window : List ℕ
-  pub step : turn ≡ turnIn (next bodyLimit kind (length entry) window 0 (more (take used entry)))
-  pub store : exit ≡ placed 0 (bytesIn (next bodyLimit kind (length entry) window 0 (more (take used entry)))) entry
+-- the same behind bytes that were read before
+unfoldable pub behind : (before : ℕ) → Got → Got
+behind before (Came.Bytes n) = Came.Bytes (before + n)
+behind before (Came.End n) = Came.End (before + n)
+behind before Came.Failed = Came.Failed
 
--- one record: a window that was read and judged; or a read that failed, and the store as it was
-abbrev pub Turned : (kind used : ℕ) (entry : List ℕ) → Window → (exit : List ℕ) → Type 0
-Turned kind used entry (One.Judged step) exit = OneWindow kind used entry (turnOf step) exit
-Turned kind used entry One.Failed exit = exit ≡ entry
+-- one read of n bytes: there is an answer, and this is what it came to
+pub record OneRead (n : ℕ) (got : Got) : Type 0 where
+  pub answer : ℤ
+  pub by-answer : got ≡ gotBy answer n
 
--- the outcome where the gathering stands so: the records ended; a refusal; after a failed read, or after all turns, neither
-abbrev pub outcomeIn : Outcome → Gathered → Turn
-outcomeIn (All.Gathered n) g = inAll n
-outcomeIn (All.Refused why) g = refusal (numberOf why)
-outcomeIn All.Failed g = soFar (length (bytesIn g))
-outcomeIn All.Unended g = soFar (length (bytesIn g))
+-- reading until n bytes are there: all n; or fewer, where the input ended
+unfoldable pub InAll : (n : ℕ) → Got → Type 0
+InAll n (Came.Bytes k) = k ≡ n
+InAll n (Came.End k) = k < n
+InAll n Came.Failed = Unit {0}
 
--- these windows were read in order, and this is what they come to; and where no end came they are 2^64 - 1
-pub record Gathers (kind : ℕ) (entry : List ℕ) (end : Outcome) (exit : List ℕ) : Type 0 where
-  pub windows : List (List ℕ)
-  pub outcome : turnIn (after bodyLimit kind (length entry) windows (more [])) ≡ outcomeIn end (after bodyLimit kind (length entry) windows (more []))
-  pub store : exit ≡ placed 0 (bytesIn (after bodyLimit kind (length entry) windows (more []))) entry
-  pub many : end ≡ All.Unended → length windows ≡ 2 ^ 64 - 1
+-- n bytes at a place of a buffer may change: those before and behind them stay
+unfoldable pub OnlyAt : (at n : ℕ) (entry exit : List ℕ) → Type 0
+OnlyAt at n entry exit = (take at exit ≡ take at entry) × (drop (at + n) exit ≡ drop (at + n) entry)
+
+-- the window of a record at the start of a buffer: a head and all that it asks for; or less, where the input ended
+unfoldable pub WindowIn : (buffer : List ℕ) → Got → Type 0
+WindowIn buffer (Came.Bytes n) = (n ≤ length buffer) × (n ≡ 4 + wantedOf bodyLimit (take 4 (take n buffer)))
+WindowIn buffer (Came.End n) = (n ≤ length buffer) × (n < 4 + wantedOf bodyLimit (take 4 (take n buffer)))
+WindowIn buffer Came.Failed = Unit {0}
+
+-- these reads were made in turn, and this is what they come to; and where more could come they are 2^64 - 1
+pub record Gathers (kind : ℕ) (entry : List ℕ) (step : Step) (exit : List ℕ) : Type 0 where
+  pub reads : List Read
+  pub in-turn : InTurn bodyLimit kind (length entry) reads (more [])
+  pub shows : Shows (after bodyLimit kind (length entry) reads (more [])) entry step exit
+  pub many : (n : ℕ) → turnOf step ≡ soFar n → length reads ≡ 2 ^ 64 - 1

@@ -1,5 +1,5 @@
 pub mod Outcomes
 pub mod Sent
 pub mod Received
-pub mod Windows
+pub mod Reading
 pub mod Unique

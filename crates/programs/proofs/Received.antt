@@ -9,7 +9,7 @@ use Rattle.refusals.specs.First.{refused as refuses}
 use Rattle.place.specs.Placed.{Writes}
 use Rattle.place.proofs.Laws.{writes-on}
 use Rattle.records.specs.Record.{bodyOf}
-use Rattle.gather.specs.Gather.{Gathered, more, done, stop, bytesIn}
+use Rattle.gather.specs.Gather.{Gathered, more, done, stop, failed, bytesIn}
 use Rattle.display.specs.Display.{hexLines, summaryLines, refusedLine, inputFailedLine}
 use Rattle.display.proofs.Laws.{lines-length, summary-length, refused-length}
 use Rattle.bits.specs.Bits.{lineBits}
@@ -20,7 +20,7 @@ use Rattle.receiving.proofs.Count.{length-answers, tens-run, length-vectors, ve
 use Rattle.receiving.specs.Answer.{ReceiveAnswer, received, refused, receiveChecks, summaryOf, receiveAnswer, receiveRoom}
 use Rattle.receiving.specs.declared.Summary.{Summary}
 use Rattle.programs.specs.Programs.{receivedText, receiverOutput}
-use Rattle.programs.proofs.Outcomes.{body-first}
+use Rattle.programs.proofs.Outcomes.{body-first, Program}
 
 -- Each vector has ten bytes.
 tens : (line : List ℕ) → length (receivedVectors line) ≡ 10 * length (vectorsOf line)
@@ -38,22 +38,18 @@ summary-fits line (received z) f =
     omega (arith, length-append (hexLines (receivedVectors line)) (summaryLines (z .counts .tested) (z .counts .slips) (z .locked) (z .high)), lines-length (receivedVectors line), summary-length (z .counts .tested) (z .counts .slips) (z .locked) (z .high), vectors-fit line)
 summary-fits line (refused n p) f = omega (arith, refused-length n)
 
--- A refusal's line.
-pub receiver-refusal : (n : ℕ) (b : List ℕ) → receiverOutput (stop n b) ≡ refusedLine n
-unfolding receiverOutput
-receiver-refusal n b = refl
-
--- A failed read's line.
-pub receiver-failure : (b : List ℕ) → receiverOutput (more b) ≡ inputFailedLine
-unfolding receiverOutput
-receiver-failure b = refl
-
 -- All of it fits the output.
-pub receiver-short : (g : Gathered) → length (bytesIn g) ≤ 49500 → length (receiverOutput g) ≤ 126109
+receiver-short : (g : Gathered) → length (bytesIn g) ≤ 49500 → length (receiverOutput g) ≤ 126109
 unfolding receiverOutput inputFailedLine
 receiver-short (done line) h = summary-fits line (receiveAnswer line 60000) h
 receiver-short (stop n b) h = omega (arith, refused-length n)
+receiver-short (failed b) h = omega arith
 receiver-short (more b) h = omega arith
+
+-- The receiver.
+pub receiver-program : Program receiverOutput 49500 126109
+unfolding receiverOutput
+receiver-program = record { refusal = λ n b. refl; failure = λ b. refl; endless = λ b. refl; short = receiver-short }
 
 module _ (line vectors : List ℕ) (room : length vectors ≡ 60000) where
   module _ (after : List ℕ) (z : Summary)

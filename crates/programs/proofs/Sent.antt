@@ -9,13 +9,13 @@ use Rattle.refusals.specs.First.{refused as refuses}
 use Rattle.bits.proofs.Laws.{length-cut}
 use Rattle.place.specs.Placed.{Writes}
 use Rattle.records.specs.Record.{bodyOf}
-use Rattle.gather.specs.Gather.{Gathered, more, done, stop, bytesIn}
+use Rattle.gather.specs.Gather.{Gathered, more, done, stop, failed, bytesIn}
 use Rattle.display.specs.Display.{lineRecords, refusedLine, inputFailedLine}
 use Rattle.display.proofs.Laws.{records-length, refused-length}
 use Rattle.sending.specs.Send.{sentLine}
 use Rattle.sending.specs.Answer.{SendAnswer, sent, refused, sendChecks, sendAnswer, sendRoom}
 use Rattle.programs.specs.Programs.{sentText, senderOutput}
-use Rattle.programs.proofs.Outcomes.{body-first}
+use Rattle.programs.proofs.Outcomes.{body-first, Program}
 
 -- Four vectors give 33 line bytes.
 line-length : (vectors : List ℕ) (start : ℕ) → length (sentLine vectors start) ≡ 33 * (length vectors / 40)
@@ -36,22 +36,18 @@ text-short : (vectors : List ℕ) (x : SendAnswer) → length vectors ≤ 60000 
 text-short vectors (sent a b c) h = records-fit vectors h
 text-short vectors (refused n p) h = omega (arith, refused-length n)
 
--- A refusal's line.
-pub sender-refusal : (n : ℕ) (b : List ℕ) → senderOutput (stop n b) ≡ refusedLine n
-unfolding senderOutput
-sender-refusal n b = refl
-
--- A failed read's line.
-pub sender-failure : (b : List ℕ) → senderOutput (more b) ≡ inputFailedLine
-unfolding senderOutput
-sender-failure b = refl
-
 -- All of it fits the output.
-pub sender-short : (g : Gathered) → length (bytesIn g) ≤ 60000 → length (senderOutput g) ≤ 49552
+sender-short : (g : Gathered) → length (bytesIn g) ≤ 60000 → length (senderOutput g) ≤ 49552
 unfolding senderOutput inputFailedLine
 sender-short (done vectors) h = text-short vectors (sendAnswer vectors 0 49500) h
 sender-short (stop n b) h = omega (arith, refused-length n)
+sender-short (failed b) h = omega arith
 sender-short (more b) h = omega arith
+
+-- The sender.
+pub sender-program : Program senderOutput 60000 49552
+unfolding senderOutput
+sender-program = record { refusal = λ n b. refl; failure = λ b. refl; endless = λ b. refl; short = sender-short }
 
 module _ (vectors line : List ℕ) (room : length line ≡ 49500) where
   -- Sending succeeded: the line stands at the start of the room.

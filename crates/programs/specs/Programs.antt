@@ -4,11 +4,11 @@ use mathlib.Core.List.{List, [], _++_}
 use Rattle.refusals.specs.Number.{numberOf}
 use Rattle.place.specs.Placed.{Writes}
 use Rattle.records.specs.Record.{bodyLimit, bodyOf}
-use Rattle.gather.specs.Gather.{Gathered, more, done, stop}
-use Rattle.gather.specs.File.{gatheredFrom, after}
+use Rattle.gather.specs.Gather.{Gathered, more, done, stop, failed, Read}
+use Rattle.gather.specs.File.{gatheredFrom, after, InTurn}
+use Rattle.gather.specs.declared.Step.{Step}
+use Rattle.gather.specs.declared.Step.the-variants as Case
 use Rattle.display.specs.Display.{lineRecords, hexLines, summaryLines, refusedLine, inputFailedLine}
-use Rattle.input.specs.declared.Outcome.{Outcome}
-use Rattle.input.specs.declared.Outcome.the-variants as Case
 use Rattle.sending.specs.Send.{sentLine}
 use Rattle.sending.specs.Answer.{SendAnswer, sent, refused, sendAnswer}
 use Rattle.receiving.specs.Receive.{receivedVectors}
@@ -27,10 +27,11 @@ abbrev pub sentText : (vectors : List ℕ) → SendAnswer → List ℕ
 sentText vectors (sent endState diagram replaced) = lineRecords 4092 (sentLine vectors 0)
 sentText vectors (refused number place) = refusedLine number
 
--- the sender: "start state 0"; "a refusal prints one line and nothing else"; where no end was seen, a read failed
+-- the sender: "start state 0"; "a refusal prints one line and nothing else"; so does a failed read, and no end in 2^64 - 1 records
 unfoldable pub senderOutput : Gathered → List ℕ
 senderOutput (done vectors) = sentText vectors (sendAnswer vectors 0 lineBytes)
 senderOutput (stop number before) = refusedLine number
+senderOutput (failed before) = inputFailedLine
 senderOutput (more before) = inputFailedLine
 
 -- "prints each vector as 20 hex digits, then four lines"; or a refusal's line
@@ -42,6 +43,7 @@ receivedText line (receiveRefused number place) = refusedLine number
 unfoldable pub receiverOutput : Gathered → List ℕ
 receiverOutput (done line) = receivedText line (receiveAnswer line vectorBytes)
 receiverOutput (stop number before) = refusedLine number
+receiverOutput (failed before) = inputFailedLine
 receiverOutput (more before) = inputFailedLine
 
 -- each on a whole file: the sender takes records of kind 1, the receiver of kind 2
@@ -51,14 +53,15 @@ senderOn file = senderOutput (gatheredFrom bodyLimit 1 vectorBytes file)
 unfoldable pub receiverOn : (file : List ℕ) → List ℕ
 receiverOn file = receiverOutput (gatheredFrom bodyLimit 2 lineBytes file)
 
--- what was gathered, by the outcome of reading and the store
-abbrev pub gatheredOf : Outcome → (store : List ℕ) → Gathered
-gatheredOf (Case.Gathered n) store = done (bodyOf store 0 n)
+-- what was gathered, by the last step and the store
+abbrev pub gatheredOf : Step → (store : List ℕ) → Gathered
+gatheredOf (Case.Done n) store = done (bodyOf store 0 n)
 gatheredOf (Case.Refused why) store = stop (numberOf why) []
-gatheredOf Case.Failed store = more []
-gatheredOf Case.Unended store = more []
+gatheredOf Case.Failed store = failed []
+gatheredOf (Case.More n) store = more []
 
--- what reading and writing leave of a program: windows were read in turn, and this is what is written for them
+-- what reading and writing leave of a program: these reads were made in turn, and this is what is written for them
 pub record Reads (kind most : ℕ) (output : Gathered → List ℕ) (entry : List ℕ) (r : ℕ) (exit : List ℕ) : Type 0 where
-  pub windows : List (List ℕ)
-  pub written : Writes 0 (output (after bodyLimit kind most windows (more []))) entry r exit
+  pub reads : List Read
+  pub in-turn : InTurn bodyLimit kind most reads (more [])
+  pub written : Writes 0 (output (after bodyLimit kind most reads (more []))) entry r exit

@@ -1,6 +1,7 @@
-// The two programs. What each writes is one proved function of what it gathered, `sender_output` and `receiver_output`, and of the
-// windows that it read, `sender_from` and `receiver_from`. Only reading and writing themselves are outside the proof.
-use input::Outcome;
+// The two programs. What each writes is one proved function of what it gathered, `sender_output` and `receiver_output`, and of its
+// reads, `sender_from` and `receiver_from`. Only reading and writing themselves are outside the proof.
+use gather::Step;
+use libc::STDERR_FILENO;
 use libc::STDIN_FILENO;
 use libc::STDOUT_FILENO;
 use receiving::Received;
@@ -12,6 +13,13 @@ ghost use Rattle.io.specs.Counts.{Counts};
 ghost use Rattle.place.specs.Placed.{Writes};
 ghost use Rattle.gather.specs.Gather.{done};
 ghost use Rattle.programs.specs.Programs.{vectorBytes, lineBytes, senderOutput, receiverOutput, gatheredOf, Reads};
+
+// Writes to standard output. Where that fails, a full disk or a closed pipe, standard error says so: a program has no status to end with.
+fn write_out(text: &[u8]) {
+    if !io::write_all(STDOUT_FILENO, text) {
+        io::write_all(STDERR_FILENO, b"output failed\n");
+    }
+}
 
 // Sends the vectors by way of a lent line.
 fn sent_output(vectors: &[u8], line: &mut [u8], out: &mut [u8]) -> usize
@@ -37,15 +45,15 @@ fn send_output(vectors: &[u8], out: &mut [u8]) -> usize
 }
 
 // What the sender writes, by what it gathered.
-pub fn sender_output(outcome: Outcome, vectors: &[u8; 60000], out: &mut [u8; 49552]) -> usize
-    ensures { λ r. ⌜ Writes 0 (senderOutput (gatheredOf outcome (now (vectors .entry)))) (now (out .entry)) r (now (out .exit)) ⌝ }
+pub fn sender_output(step: Step, vectors: &[u8; 60000], out: &mut [u8; 49552]) -> usize
+    ensures { λ r. ⌜ Writes 0 (senderOutput (gatheredOf step (now (vectors .entry)))) (now (out .entry)) r (now (out .exit)) ⌝ }
     ensures { λ r. ⌜ Counts r (now (out .exit)) ⌝ }
 {
-    match outcome {
-        Outcome::Gathered(n) => send_output(records::body(vectors, 0, n), out),
-        Outcome::Refused(why) => display::refused_line(why, out, 0),
-        Outcome::Failed => display::input_failed_line(out, 0),
-        Outcome::Unended => display::input_failed_line(out, 0),
+    match step {
+        Step::Done(n) => send_output(records::body(vectors, 0, n), out),
+        Step::Refused(why) => display::refused_line(why, out, 0),
+        Step::Failed => display::input_failed_line(out, 0),
+        Step::More(_) => display::input_failed_line(out, 0),
     }
 }
 
@@ -55,15 +63,15 @@ pub fn sender_from(fd: i32, out: &mut [u8; 49552]) -> usize
     ensures { λ r. ⌜ Counts r (now (out .exit)) ⌝ }
 {
     let mut vectors = [0u8; 60000];
-    let outcome = input::gathered(fd, 1, &mut vectors);
-    sender_output(outcome, &vectors, out)
+    let step = input::gathered(fd, 1, &mut vectors);
+    sender_output(step, &vectors, out)
 }
 
 // Vector records on standard input, line records on standard output.
 pub fn sender() {
     let mut out = [0u8; 49552];
     let n = sender_from(STDIN_FILENO, &mut out);
-    io::write_all(STDOUT_FILENO, &out[..n]);
+    write_out(&out[..n]);
 }
 
 // Receives the line by way of lent vectors.
@@ -92,15 +100,15 @@ fn receive_output(line: &[u8], out: &mut [u8]) -> usize
 }
 
 // What the receiver writes, by what it gathered.
-pub fn receiver_output(outcome: Outcome, line: &[u8; 49500], out: &mut [u8; 126109]) -> usize
-    ensures { λ r. ⌜ Writes 0 (receiverOutput (gatheredOf outcome (now (line .entry)))) (now (out .entry)) r (now (out .exit)) ⌝ }
+pub fn receiver_output(step: Step, line: &[u8; 49500], out: &mut [u8; 126109]) -> usize
+    ensures { λ r. ⌜ Writes 0 (receiverOutput (gatheredOf step (now (line .entry)))) (now (out .entry)) r (now (out .exit)) ⌝ }
     ensures { λ r. ⌜ Counts r (now (out .exit)) ⌝ }
 {
-    match outcome {
-        Outcome::Gathered(n) => receive_output(records::body(line, 0, n), out),
-        Outcome::Refused(why) => display::refused_line(why, out, 0),
-        Outcome::Failed => display::input_failed_line(out, 0),
-        Outcome::Unended => display::input_failed_line(out, 0),
+    match step {
+        Step::Done(n) => receive_output(records::body(line, 0, n), out),
+        Step::Refused(why) => display::refused_line(why, out, 0),
+        Step::Failed => display::input_failed_line(out, 0),
+        Step::More(_) => display::input_failed_line(out, 0),
     }
 }
 
@@ -110,13 +118,13 @@ pub fn receiver_from(fd: i32, out: &mut [u8; 126109]) -> usize
     ensures { λ r. ⌜ Counts r (now (out .exit)) ⌝ }
 {
     let mut line = [0u8; 49500];
-    let outcome = input::gathered(fd, 2, &mut line);
-    receiver_output(outcome, &line, out)
+    let step = input::gathered(fd, 2, &mut line);
+    receiver_output(step, &line, out)
 }
 
 // Line records on standard input, vectors and four lines on standard output.
 pub fn receiver() {
     let mut out = [0u8; 126109];
     let n = receiver_from(STDIN_FILENO, &mut out);
-    io::write_all(STDOUT_FILENO, &out[..n]);
+    write_out(&out[..n]);
 }

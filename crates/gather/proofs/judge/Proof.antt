@@ -1,78 +1,62 @@
 use borrow.Author.Needs.{needs}
-use mathlib.Core.Path.{_≡_, sym, ap, _∙_}
+use mathlib.Core.Path.{sym, ap}
 use native.Mathlib.Omega.{arith}
-use lib.ListN.{length}
+use lib.Seq.{length-take-le}
 use denote.Ref.{now}
-use Rattle.records.specs.Record.{bodyLimit, whole, readAt, answerOf}
-use Rattle.records.proofs.Laws.{body-length}
-use Rattle.gather.proofs.Judged.{ended, refuses, other-kind, too-much, taken}
+use Rattle.gather.specs.Gather.{countOf}
+use Rattle.gather.proofs.Judged.{came-to, read-failed}
 use Rattle.gather.proofs.judge.Statement.{statement}
 use Rattle.gather.proofs.judge.Tie as tie
 
-read-requires : tie.Need-read-requires
-read-requires c κs = search needs
+enum-known-got : tie.Need-enum-known-got
+enum-known-got c = search needs
+
+slice-aggregate-judge-window : tie.Need-slice-aggregate-judge-window
+slice-aggregate-judge-window c = sym (length-take-le _ _ (omega (arith, c .before .before .before .before .before .before .pre .0, ap countOf (c .before .before .got .given .1))))
+
+judge-window-requires : tie.Need-judge-window-requires
+judge-window-requires c κs = search needs
+
+enum-known-got-2 : tie.Need-enum-known-got-2
+enum-known-got-2 c = search needs
+
+slice-aggregate-judge-window-2 : tie.Need-slice-aggregate-judge-window-2
+slice-aggregate-judge-window-2 c = sym (length-take-le _ _ (omega (arith, c .before .before .before .before .before .before .pre .0, ap countOf (c .before .before .got2 .given .1))))
+
+judge-window-requires-2 : tie.Need-judge-window-requires-2
+judge-window-requires-2 c κs = search needs
 
 enum-told : tie.Need-enum-told
 enum-told c = search needs
 
-enum-known-why : tie.Need-enum-known-why
-enum-known-why c = search needs
-
-enum-known-k : tie.Need-enum-known-k
-enum-known-k c = search needs
-
--- What the reader found, in the arm of a whole record.
-found : (c : tie.After-known-told2) → readAt bodyLimit (now (c .before .before .before .before .before .before .args .window)) 0 ≡ whole (c .before .k .given .0 .0) (c .before .k .given .0 .1 .0) (c .before .k .given .0 .1 .1 .0) (c .before .k .given .0 .1 .1 .1 .0)
-found c = sym (c .before .before .before .read .ensures) ∙ ap answerOf (c .before .k .given .1)
-
-returns : tie.Need-returns
-returns c = other-kind _ _ _ _ _ (c .before .before .before .before .before .before .before .pre) _ _ _ _ (found (c .before)) (c .if1 .taken)
-
-sub-if2 : tie.Need-sub-if2
-sub-if2 c = search needs
-
-returns-2 : tie.Need-returns-2
-returns-2 c = too-much _ _ _ _ _ (c .before .before .before .before .before .before .before .before .pre) _ _ _ _ (found (c .before .before)) (c .before .if1 .left) (c .if2 .taken)
-
-body-requires : tie.Need-body-requires
-body-requires c κs = search needs
-
-put-requires : tie.Need-put-requires
-put-requires c κs =
-    let n = body-length _ _ _ _ _ _ _ (found (c .before .before .before .before)) in
-    let e = ap length (c .before .body .ensures) in
-    omega (arith, n, e)
-
-add-t13 : tie.Need-add-t13
-add-t13 c = search needs
-
-returns-3 : tie.Need-returns-3
-returns-3 c = ended _ _ _ _ _ (c .before .before .before .before .before .pre) (sym (c .before .before .read .ensures) ∙ ap answerOf (c .enum-told .given .1))
-
-returns-4 : tie.Need-returns-4
-returns-4 c = refuses _ _ _ _ _ (c .before .before .before .before .before .before .pre) _ _ (sym (c .before .before .before .read .ensures) ∙ ap answerOf (c .before .why .given .1))
-
 same-length : tie.Need-same-length
 same-length c = search needs
 
-returns-5 : tie.Need-returns-5
-returns-5 c = taken _ _ _ _ _ (c .before .before .before .before .before .before .before .before .before .before .before .before .before .pre) _ _ _ _ (found (c .before .before .before .before .before .before .before)) _ _ (c .before .before .before .before .before .before .if1 .left) (c .before .before .before .before .before .if2 .left) (c .before .before .before .before .body .ensures) (c .before .before .put .ensures)
+returns : tie.Need-returns
+returns c = let a = c .before .before .before .before .before .before .before .before .before .before .args in came-to _ _ (a .used) _ _ (now (a .store)) _ (c .before .before .judge-window .result) _ (c .before .before .before .before .before .before .got .given .1) (c .before .before .judge-window .ensures)
+
+same-length-2 : tie.Need-same-length-2
+same-length-2 c = search needs
+
+returns-2 : tie.Need-returns-2
+returns-2 c = let a = c .before .before .before .before .before .before .before .before .before .before .args in came-to _ _ (a .used) _ _ (now (a .store)) _ (c .before .before .judge-window2 .result) _ (c .before .before .before .before .before .before .got2 .given .1) (c .before .before .judge-window2 .ensures)
+
+returns-3 : tie.Need-returns-3
+returns-3 c = read-failed _ _ _ _ _ _ (c .before .before .before .before .pre .1) (c .enum-told .given .1)
 
 pub judge-spec : {M : Type 1} → statement M
 judge-spec =
     tie.close
     (tie.spec
-    read-requires
+    enum-known-got
+    slice-aggregate-judge-window
+    judge-window-requires
+    enum-known-got-2
+    slice-aggregate-judge-window-2
+    judge-window-requires-2
     enum-told
-    enum-known-why
-    enum-known-k
-    returns
-    sub-if2
-    returns-2
-    body-requires
-    put-requires
-    add-t13
-    returns-3
-    returns-4
     same-length
-    returns-5)
+    returns
+    same-length-2
+    returns-2
+    returns-3)

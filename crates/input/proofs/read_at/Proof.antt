@@ -1,22 +1,24 @@
 use borrow.Author.Needs.{needs}
-use Prim.Native.Nat.{_+_, _-_, _≤_}
-use mathlib.Core.Path.{_≡_, refl, ap, _∙_}
+use Prim.Native.Nat.{ℕ, _+_, _-_, _≤_, _<_}
+use mathlib.Core.Path.{_≡_, sym, subst}
 use native.Mathlib.Omega.{arith}
-use borrow.Rule.Slice.PartMut.{putMid, same-len-mid}
-use lib.ListN.{length, take, drop, length-take}
 use denote.Ref.{now}
-use Rattle.input.specs.Read.{bytesOf}
+use borrow.Rule.Slice.PartMut.{putMid}
+use Rattle.gather.specs.Gather.{countOf}
+use Rattle.input.specs.Read.{behind, InAll}
+use Rattle.input.proofs.Answers.{came-none}
+use Rattle.input.proofs.Parts.{Filling, filling-first, part-bytes, filling-more}
 use Rattle.input.proofs.read_at.Statement.{statement}
 use Rattle.input.proofs.read_at.Tie as tie
 
 abbrev Inv-loop : tie.InvT-loop
-Inv-loop fd buf₀ at n done₀ buf done = (done ≤ n) × (length buf ≡ length buf₀)
+Inv-loop fd buf₀ at n done₀ buf done = Filling buf₀ at n buf done
 
 abbrev μ-loop : tie.MeasureT-loop
 μ-loop fd buf₀ at n done₀ buf done = n - done
 
 loop-holds : tie.Need-loop-holds Inv-loop μ-loop
-loop-holds c = (omega arith, refl)
+loop-holds c = filling-first _ _ _
 
 add-read-part : tie.Need-add-read-part Inv-loop μ-loop
 add-read-part c = search needs
@@ -36,54 +38,51 @@ part-read-part-end c = search needs
 read-part-requires : tie.Need-read-part-requires Inv-loop μ-loop
 read-part-requires c κs = search needs
 
-enum-told : tie.Need-enum-told Inv-loop μ-loop
-enum-told c = search needs
+enum-known-got : tie.Need-enum-known-got Inv-loop μ-loop
+enum-known-got c = search needs
 
 -- How many bytes the read gave.
-least : (c : tie.After-k Inv-loop μ-loop) → c .k .given .0 .0 ≤ c .before .before .before .before .before .before .before .before .before .args .n - c .before .before .before .before .before .before .before .loop .done
-least c =
-    let a = c .before .before .before .before .before .before .before .before .before .args in
-    let l = c .before .before .before .before .before .before .before .loop in
-    let r = c .before .before .before .before .read-part .ensures in
-    let part = take (a .at + a .n - (a .at + l .done)) (drop (a .at + l .done) (l .buf)) in
-    omega (arith, ap bytesOf (c .k .given .1), r, length-take (a .at + a .n - (a .at + l .done)) (drop (a .at + l .done) (l .buf)))
+gave : (c : tie.After-got Inv-loop μ-loop) → (0 < c .got .given .0 .0) × (c .before .before .before .before .before .before .before .loop .done + c .got .given .0 .0 ≤ c .before .before .before .before .before .before .before .before .before .args .n)
+gave c = part-bytes _ _ _ _ _ (c .before .before .before .before .before .before .before .before .before .pre) (c .before .before .before .before .before .before .before .loop .inv) _ _ (c .before .before .before .before .before .before .loop-test .taken) (c .before .before .before .before .read-part .ensures) (c .got .given .1)
 
--- The buffer keeps its length.
-kept : (c : tie.After-read-part Inv-loop μ-loop) → let a = c .before .before .before .before .before .args in let l = c .before .before .before .loop in length (putMid (a .at + l .done) (a .at + a .n - (a .at + l .done)) (l .buf) (c .read-part .last .1 .0)) ≡ length (now (a .buf))
-kept c =
-    let a = c .before .before .before .before .before .args in
-    let l = c .before .before .before .loop in
-    same-len-mid (a .at + l .done) (a .at + a .n - (a .at + l .done)) (l .buf) (c .read-part .last .1 .0) (c .read-part .kept .1 .0) ∙ l .inv .1
+-- It gave none.
+none : (c : tie.At-match-keys2 Inv-loop μ-loop) → InAll (c .before .before .before .before .before .before .before .before .args .n) (behind (c .before .before .before .before .before .before .loop .done) (c .before .before .before .read-part .result)) × (countOf (c .before .before .before .read-part .result) ≡ 0)
+none c = came-none _ _ _ _ (c .before .before .before .read-part .ensures) (c .match .keys2) (c .before .before .before .before .before .loop-test .taken)
+
+-- The buffer after it.
+filled : (c : tie.After-read-part Inv-loop μ-loop) (k : ℕ) → c .before .before .before .loop .done + k ≤ c .before .before .before .before .before .args .n
+    → let a = c .before .before .before .before .before .args in let l = c .before .before .before .loop in Filling (now (a .buf)) (a .at) (a .n) (putMid (a .at + l .done) (a .at + a .n - (a .at + l .done)) (l .buf) (c .read-part .last .1 .0)) (l .done + k)
+filled c k h = filling-more _ _ _ _ _ (c .before .before .before .before .before .pre) (c .before .before .before .loop .inv) k (c .read-part .last .1 .0) h (c .read-part .kept .1 .0)
+
+-- The same where it gave none.
+left : (c : tie.After-read-part Inv-loop μ-loop)
+    → let a = c .before .before .before .before .before .args in let l = c .before .before .before .loop in Filling (now (a .buf)) (a .at) (a .n) (putMid (a .at + l .done) (a .at + a .n - (a .at + l .done)) (l .buf) (c .read-part .last .1 .0)) (l .done + 0)
+left c = filled c 0 (omega (arith, c .before .before .before .loop .inv .within))
+
+counted-requires : tie.Need-counted-requires Inv-loop μ-loop
+counted-requires c κs = omega (arith, none c .1)
 
 same-length : tie.Need-same-length Inv-loop μ-loop
-same-length c = kept (c .before .before .before .before)
+same-length c = left (c .before .before .before .before) .same
 
 returns : tie.Need-returns Inv-loop μ-loop
-returns c = omega arith
-
-enum-known-k : tie.Need-enum-known-k Inv-loop μ-loop
-enum-known-k c = search needs
-
-same-length-2 : tie.Need-same-length-2 Inv-loop μ-loop
-same-length-2 c = kept (c .before .before .before .before .before .before)
-
-returns-2 : tie.Need-returns-2 Inv-loop μ-loop
-returns-2 c = c .before .before .before .before .before .before .before .before .before .loop .inv .0
+returns c = let f = left (c .before .before .before .before) in (subst (InAll (c .before .before .before .before .before .before .before .before .before .args .n)) (sym (c .counted .ensures)) (none (c .before) .0), f .only)
 
 add-done : tie.Need-add-done Inv-loop μ-loop
-add-done c = omega (arith, least (c .before .before))
+add-done c = omega (arith, gave (c .before))
 
 loop-less : tie.Need-loop-less Inv-loop μ-loop
-loop-less c = omega (arith, least (c .before .before))
+loop-less c = omega (arith, gave (c .before))
 
 loop-again : tie.Need-loop-again Inv-loop μ-loop
-loop-again c = (omega (arith, least (c .before .before)), kept (c .before .before .before .before .before .before))
+loop-again c = filled (c .before .before .before .before .before) _ (gave (c .before) .1)
 
-same-length-3 : tie.Need-same-length-3 Inv-loop μ-loop
-same-length-3 c = c .before .loop .inv .1
+same-length-2 : tie.Need-same-length-2 Inv-loop μ-loop
+same-length-2 c = c .before .loop .inv .same
 
-returns-3 : tie.Need-returns-3 Inv-loop μ-loop
-returns-3 c = c .before .loop .inv .0
+returns-2 : tie.Need-returns-2 Inv-loop μ-loop
+unfolding InAll
+returns-2 c = let f = c .before .loop .inv in (omega (arith, f .within), f .only)
 
 pub read-at-spec : {M : Type 1} → statement M
 read-at-spec =
@@ -98,14 +97,12 @@ read-at-spec =
     part-read-part-start
     part-read-part-end
     read-part-requires
-    enum-told
+    enum-known-got
+    counted-requires
     same-length
     returns
-    enum-known-k
-    same-length-2
-    returns-2
     add-done
     loop-less
     loop-again
-    same-length-3
-    returns-3)
+    same-length-2
+    returns-2)

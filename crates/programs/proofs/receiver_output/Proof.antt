@@ -1,13 +1,12 @@
-use native.Mathlib.Omega.{arith}
-use Rattle.programs.specs.Programs.{receiverOutput}
-use Rattle.programs.proofs.Outcomes.{was-gathered, was-refused, was-failed, was-unended}
-use Rattle.programs.proofs.Received.{receiver-refusal, receiver-failure, receiver-short}
 use borrow.Author.Needs.{needs}
+use native.Mathlib.Omega.{arith}
+use Rattle.programs.proofs.Outcomes.{was-done, was-refused, was-failed, was-more}
+use Rattle.programs.proofs.Received.{receiver-program}
 use Rattle.programs.proofs.receiver_output.Statement.{statement}
 use Rattle.programs.proofs.receiver_output.Tie as tie
 
-enum-known-outcome : tie.Need-enum-known-outcome
-enum-known-outcome c = search needs
+enum-known-step : tie.Need-enum-known-step
+enum-known-step c = search needs
 
 body-requires : tie.Need-body-requires
 body-requires c κs = search needs
@@ -15,8 +14,8 @@ body-requires c κs = search needs
 receive-output-requires : tie.Need-receive-output-requires
 receive-output-requires c κs = search needs
 
-enum-known-outcome-2 : tie.Need-enum-known-outcome-2
-enum-known-outcome-2 c = search needs
+enum-known-step-2 : tie.Need-enum-known-step-2
+enum-known-step-2 c = search needs
 
 refused-line-requires : tie.Need-refused-line-requires
 refused-line-requires c κs = search needs
@@ -34,25 +33,25 @@ input-failed-line-requires-2 : tie.Need-input-failed-line-requires-2
 input-failed-line-requires-2 c κs = search needs
 
 returns : tie.Need-returns
-returns c = was-gathered receiverOutput 49500 126109 receiver-refusal receiver-failure receiver-short _ _ _ _ _ (omega arith) _ _ (omega arith) (c .before .before .before .before .before .outcome .given .1) (c .before .before .body .ensures) (c .receive-output .ensures)
+returns c = was-done receiver-program _ _ _ _ _ (omega arith) _ _ (omega arith) (c .before .before .before .before .before .step .given .1) (c .before .before .body .ensures) (c .receive-output .ensures)
 
 returns-2 : tie.Need-returns-2
-returns-2 c = was-refused receiverOutput 49500 126109 receiver-refusal receiver-failure receiver-short _ _ _ _ _ (omega arith) _ (c .before .before .before .outcome2 .given .1) (c .refused-line .ensures)
+returns-2 c = was-refused receiver-program _ _ _ _ _ (omega arith) _ (c .before .before .before .step2 .given .1) (c .refused-line .ensures)
 
 returns-3 : tie.Need-returns-3
-returns-3 c = was-failed receiverOutput 49500 126109 receiver-refusal receiver-failure receiver-short _ _ _ _ _ (omega arith) (c .before .before .enum-told .given .1) (c .input-failed-line .ensures)
+returns-3 c = was-failed receiver-program _ _ _ _ _ (omega arith) (c .before .before .enum-told .given .1) (c .input-failed-line .ensures)
 
 returns-4 : tie.Need-returns-4
-returns-4 c = was-unended receiverOutput 49500 126109 receiver-refusal receiver-failure receiver-short _ _ _ _ _ (omega arith) (c .before .before .enum-told2 .given .1) (c .input-failed-line2 .ensures)
+returns-4 c = was-more receiver-program _ _ _ _ _ (omega arith) _ (c .before .before .enum-told2 .given .1) (c .input-failed-line2 .ensures)
 
 pub receiver-output-spec : {M : Type 1} → statement M
 receiver-output-spec =
     tie.close
     (tie.spec
-    enum-known-outcome
+    enum-known-step
     body-requires
     receive-output-requires
-    enum-known-outcome-2
+    enum-known-step-2
     refused-line-requires
     enum-told
     input-failed-line-requires
