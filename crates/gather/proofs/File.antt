@@ -15,7 +15,7 @@ use Rattle.refusals.specs.First.{refused as refuses}
 use Rattle.records.specs.Record.{Answer, whole, end, refused, twoAt, unknownKind, notGroups, readChecks, readAt, bodyOf, wantedOf}
 use Rattle.records.proofs.Laws.{by-test, inside}
 use Rattle.gather.specs.Gather.{Gathered, more, done, stop, failed, judged, next, Read, window, failure, nextRead}
-use Rattle.gather.specs.File.{placeAfter, gathering, gatheredFrom, windowOf, windows, after, Going, on, IsWindow, InTurn, bytesRead}
+use Rattle.gather.specs.File.{placeAfter, gathering, gatheredFrom, windowOf, windows, after, Going, on, IsWindow, InTurn, bytesRead, Concluded, by-end, by-refusal}
 
 -- An answer with its places counted from the head.
 abbrev pub rebased : Answer → Answer
@@ -176,15 +176,10 @@ pub data Over : Gathered → Type 0 where
   stopped : (n : ℕ) (bytes : List ℕ) → Over (stop n bytes)
   broken : (bytes : List ℕ) → Over (failed bytes)
 
--- An end or a refusal came.
-pub data Settled : Gathered → Type 0 where
-  by-end : (bytes : List ℕ) → Settled (done bytes)
-  by-refusal : (n : ℕ) (bytes : List ℕ) → Settled (stop n bytes)
-
 -- Then it is over.
-settled : {g : Gathered} → Settled g → Over g
-settled (by-end b) = ended b
-settled (by-refusal n b) = stopped n b
+concluded : {g : Gathered} → Concluded g → Over g
+concluded (by-end b) = ended b
+concluded (by-refusal n b) = stopped n b
 
 -- No read failed.
 data Sound : Gathered → Type 0 where
@@ -193,7 +188,7 @@ data Sound : Gathered → Type 0 where
   at-stop : (n : ℕ) (bytes : List ℕ) → Sound (stop n bytes)
 
 -- So it is over by an end or a refusal.
-by-either : {g : Gathered} → Over g → Sound g → Settled g
+by-either : {g : Gathered} → Over g → Sound g → Concluded g
 by-either (ended b) s = by-end b
 by-either (stopped n b) s = by-refusal n b
 
@@ -295,7 +290,7 @@ module _ (limit kind most : ℕ) where
   file-sound (suc n) file at s = file-sound n file (placeAfter at (readAt limit file at)) (next-sound file at s)
 
   -- After all records of a file there was an end or a refusal.
-  pub over : (file : List ℕ) → Settled (gatheredFrom limit kind most file)
+  pub over : (file : List ℕ) → Concluded (gatheredFrom limit kind most file)
   over file = by-either (enough (length file) file 0 (more []) (omega arith)) (file-sound (suc (length file)) file 0 (so-far []))
 
   -- More records than are needed change nothing.
@@ -318,8 +313,8 @@ module _ (limit kind most : ℕ) where
   in-turn-one (q ∷ rs) r g t o w = (t .0, t .1, in-turn-one rs r (nextRead limit kind most q g) (t .2) o w)
 
 -- Where a read failed neither came.
-unsettled : {C : Type 0} {bytes : List ℕ} → Settled (failed bytes) → C
-unsettled = elim [ ]
+unconcluded : {C : Type 0} {bytes : List ℕ} → Concluded (failed bytes) → C
+unconcluded = elim [ ]
 
 -- And then no more is read.
 ungoing : {C : Type 0} {bytes : List ℕ} → Going (failed bytes) → C
@@ -344,9 +339,9 @@ module _ (limit : ℕ) where
 
     -- So are all reads but the last, and the last is what was left.
     pub reads-are : (r : Read) (rs : List Read) {g : Gathered} → Going g → IsWindow limit r → InTurn limit kind most rs (nextRead limit kind most r g)
-        → Settled (after limit kind most rs (nextRead limit kind most r g)) → windows limit (suc (length rs)) (bytesRead (r ∷ rs)) ≡ r ∷ rs
+        → Concluded (after limit kind most rs (nextRead limit kind most r g)) → windows limit (suc (length rs)) (bytesRead (r ∷ rs)) ≡ r ∷ rs
     unfolding after windows
-    reads-are failure [] (on b) i t s = unsettled s
+    reads-are failure [] (on b) i t s = unconcluded s
     reads-are failure (q ∷ rs) (on b) i t s = ungoing (t .0)
     reads-are (window w) [] o i t s = ap (λ (l : List ℕ). window l ∷ []) (ap (windowOf limit) (append-nil w) ∙ i)
     reads-are (window w) (q ∷ rs) (on b) i t s =
@@ -358,10 +353,10 @@ module _ (limit : ℕ) where
         ∙ ap (λ (l : List Read). window w ∷ l) (reads-are q rs (t .0) (t .1) (t .2) s)
 
     -- What they come to is what the definition says of the file that was read.
-    pub file-read : (rs : List Read) → InTurn limit kind most rs (more []) → Settled (after limit kind most rs (more [])) → after limit kind most rs (more []) ≡ gatheredFrom limit kind most (bytesRead rs)
+    pub file-read : (rs : List Read) → InTurn limit kind most rs (more []) → Concluded (after limit kind most rs (more [])) → after limit kind most rs (more []) ≡ gatheredFrom limit kind most (bytesRead rs)
     unfolding after
     file-read (r ∷ rs) t s =
         let file = bytesRead (r ∷ rs) in
         let e : after limit kind most (r ∷ rs) (more []) ≡ gathering limit kind most (suc (length rs)) file 0 (more []) =
         ap (λ (l : List Read). after limit kind most l (more [])) (sym (reads-are r rs (t .0) (t .1) (t .2) s)) ∙ by-windows limit kind most (suc (length rs)) file 0 (more []) in
-        e ∙ as-many limit kind most (suc (length rs)) (suc (length file)) file 0 (more []) (subst Over e (settled s)) (settled (over limit kind most file))
+        e ∙ as-many limit kind most (suc (length rs)) (suc (length file)) file 0 (more []) (subst Over e (concluded s)) (concluded (over limit kind most file))

@@ -4,7 +4,7 @@ use mathlib.Core.Path.{_≡_}
 use mathlib.Core.List.{List, [], _∷_, _++_}
 use lib.ListN.{length, take, drop}
 use Rattle.records.specs.Record.{Answer, whole, end, refused, readAt, wantedOf}
-use Rattle.gather.specs.Gather.{Gathered, more, next, Read, window, failure, nextRead}
+use Rattle.gather.specs.Gather.{Gathered, more, done, stop, next, Read, window, failure, nextRead}
 
 -- where the record after this one stands: the same place where there is none
 abbrev pub placeAfter : (at : ℕ) → Answer → ℕ
@@ -38,6 +38,11 @@ after limit kind most (r ∷ rs) g = after limit kind most rs (nextRead limit ki
 -- no end, no refusal and no failed read yet
 pub data Going : Gathered → Type 0 where
   on : (bytes : List ℕ) → Going (more bytes)
+
+-- an end or a refusal came
+pub data Concluded : Gathered → Type 0 where
+  by-end : (bytes : List ℕ) → Concluded (done bytes)
+  by-refusal : (number : ℕ) (bytes : List ℕ) → Concluded (stop number bytes)
 
 -- a read that did not fail is one window: no more than a head and what it asks for
 abbrev pub IsWindow : (limit : ℕ) → Read → Type 0

@@ -7,10 +7,10 @@ use Rattle.refusals.specs.Number.{numberOf}
 use Rattle.place.specs.Placed.{placed, Writes}
 use Rattle.records.specs.Record.{bodyLimit}
 use Rattle.gather.specs.Gather.{Gathered, more, done, stop, failed, bytesIn, turnIn, turnOf}
-use Rattle.gather.specs.File.{windows, after, gatheredFrom, bytesRead}
+use Rattle.gather.specs.File.{windows, after, gatheredFrom, Concluded, bytesRead}
 use Rattle.gather.specs.declared.Step.{Step}
 use Rattle.gather.specs.declared.Step.the-variants as Case
-use Rattle.gather.proofs.File.{whole-file, Settled, file-read}
+use Rattle.gather.proofs.File.{whole-file, file-read}
 use Rattle.display.specs.Display.{inputFailedLine}
 use Rattle.input.specs.Read.{Gathers}
 use Rattle.programs.specs.Programs.{Reads, gatheredOf, senderOutput, receiverOutput, senderOn, receiverOn, vectorBytes, lineBytes}
@@ -77,21 +77,21 @@ module _ (kind most : ℕ) (text : Gathered → List ℕ) (entry exit : List ℕ
   abbrev at-last : Gathered
   at-last = after bodyLimit kind most (p .reads) (more [])
 
-  of-file : Settled at-last → Writes 0 (text (gatheredFrom bodyLimit kind most (bytesRead (p .reads)))) entry r exit
+  of-file : Concluded at-last → Writes 0 (text (gatheredFrom bodyLimit kind most (bytesRead (p .reads)))) entry r exit
   of-file s = subst (λ (g : Gathered). Writes 0 (text g) entry r exit) (file-read bodyLimit kind most (p .reads) (p .in-turn) s) (p .written)
 
   of-failure : ((b : List ℕ) → text (failed b) ≡ inputFailedLine) → (b : List ℕ) → at-last ≡ failed b → Writes 0 inputFailedLine entry r exit
   of-failure f b e = subst (λ (x : List ℕ). Writes 0 x entry r exit) (ap text e ∙ f b) (p .written)
 
 module _ (entry exit : List ℕ) (r : ℕ) where
-  pub sender-read : (p : Reads 1 vectorBytes senderOutput entry r exit) → Settled (after bodyLimit 1 vectorBytes (p .reads) (more [])) → Writes 0 (senderOn (bytesRead (p .reads))) entry r exit
+  pub sender-read : (p : Reads 1 vectorBytes senderOutput entry r exit) → Concluded (after bodyLimit 1 vectorBytes (p .reads) (more [])) → Writes 0 (senderOn (bytesRead (p .reads))) entry r exit
   unfolding senderOn
   sender-read = of-file 1 vectorBytes senderOutput entry exit r
 
   pub sender-failed : (p : Reads 1 vectorBytes senderOutput entry r exit) (b : List ℕ) → after bodyLimit 1 vectorBytes (p .reads) (more []) ≡ failed b → Writes 0 inputFailedLine entry r exit
   sender-failed p = of-failure 1 vectorBytes senderOutput entry exit r p (sender-program .failure)
 
-  pub receiver-read : (p : Reads 2 lineBytes receiverOutput entry r exit) → Settled (after bodyLimit 2 lineBytes (p .reads) (more [])) → Writes 0 (receiverOn (bytesRead (p .reads))) entry r exit
+  pub receiver-read : (p : Reads 2 lineBytes receiverOutput entry r exit) → Concluded (after bodyLimit 2 lineBytes (p .reads) (more [])) → Writes 0 (receiverOn (bytesRead (p .reads))) entry r exit
   unfolding receiverOn
   receiver-read = of-file 2 lineBytes receiverOutput entry exit r
 
