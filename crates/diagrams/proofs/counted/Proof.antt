@@ -21,11 +21,11 @@ returns c = rw (← c .before .before .before .before .miss .ensures .0, lt-leb 
 
 returns-2 : tie.Need-returns-2
 unfolding countedOf
-returns-2 c = rw (← c .before .before .before .before .miss .ensures .0, le-leb 64 (c .before .before .before .before .before .args .l .tested + 1) (omega arith), eq-eqb _ _ (c .if2 .taken))
+returns-2 c = rw (← c .before .before .before .before .miss .ensures .0, le-leb 64 (c .before .before .before .before .before .args .l .tested + 1) (omega arith), eq-eqb _ 0 (c .if2 .taken))
 
 returns-3 : tie.Need-returns-3
 unfolding countedOf
-returns-3 c = rw (← c .before .before .before .before .miss .ensures .0, le-leb 64 (c .before .before .before .before .before .args .l .tested + 1) (omega arith), ne-eqb _ _ (c .if2 .left))
+returns-3 c = rw (← c .before .before .before .before .miss .ensures .0, le-leb 64 (c .before .before .before .before .before .args .l .tested + 1) (omega arith), ne-eqb _ 0 (c .if2 .left))
 
 pub counted-spec : {M : Type 1} → statement M
 counted-spec = tie.close (tie.spec miss-requires add-m add-t7 returns returns-2 returns-3)

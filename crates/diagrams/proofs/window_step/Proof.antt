@@ -17,14 +17,14 @@ add-t8 c = search needs
 
 returns : tie.Need-returns
 unfolding windowOf
-returns c = rw (← c .before .before .before .before .before .miss .ensures .0, lt-leb 19531 (c .before .before .before .before .before .before .args .r .blocks + 1) (omega arith), le-leb _ _ (c .before .if2 .taken))
+returns c = rw (← c .before .before .before .before .before .miss .ensures .0, lt-leb 19531 (c .before .before .before .before .before .before .args .r .blocks + 1) (omega arith), le-leb 16 _ (c .before .if2 .taken))
 
 add-t9 : tie.Need-add-t9
 add-t9 c = search needs
 
 returns-2 : tie.Need-returns-2
 unfolding windowOf
-returns-2 c = rw (← c .before .before .before .before .before .miss .ensures .0, lt-leb 19531 (c .before .before .before .before .before .before .args .r .blocks + 1) (omega arith), lt-leb _ _ (c .before .if2 .left))
+returns-2 c = rw (← c .before .before .before .before .before .miss .ensures .0, lt-leb 19531 (c .before .before .before .before .before .before .args .r .blocks + 1) (omega arith), lt-leb 16 _ (c .before .if2 .left))
 
 returns-3 : tie.Need-returns-3
 unfolding windowOf

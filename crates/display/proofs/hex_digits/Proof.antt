@@ -19,13 +19,13 @@ shared-slice-read-b : tie.Need-shared-slice-read-b Inv-loop μ-loop
 shared-slice-read-b c = search needs
 
 digit-requires : tie.Need-digit-requires Inv-loop μ-loop
-digit-requires c κs = let a = c .before .before .before .before .before .args in omega (arith, c .shared-slice-known2 .given (c .before .before .loop .j))
+digit-requires c κs = omega (arith, c .shared-slice-known2 .given (c .before .before .loop .j))
 
 slice-write-out : tie.Need-slice-write-out Inv-loop μ-loop
 slice-write-out c = search needs
 
 digit-requires-2 : tie.Need-digit-requires-2 Inv-loop μ-loop
-digit-requires-2 c κs = search needs
+digit-requires-2 c κs = omega (arith, c .before .shared-slice-known2 .given (c .before .before .before .loop .j))
 
 add-out : tie.Need-add-out Inv-loop μ-loop
 add-out c = search needs
