@@ -1,8 +1,8 @@
 /* linkwatch CAPTURE ...: tells a person what a 10GBASE-R link was saying, from capture files of line records.
  *
  * It gathers a file's line bytes, has the library receive them, and prints how many blocks were bad and why, how many frames began, and
- * one line for each run of vectors that say the same. After several files it prints the total. All that it tells stands in the vectors,
- * summaries and counters that the library answered. A block takes 6.4 ns on the line.
+ * one line for each run of vectors that say the same. After several files it prints the total. All that it tells of a link stands in the
+ * vectors, summaries and counters that the library answered. A block takes 6.4 ns on the line.
  *
  * It looks at control characters and ordered sets, and at no other data. A few flipped bits show as errors, or else change data octets
  * alone (the header, "What damage can do"): a frame may have wrong data, and a fault may have been another ordered set. Clause 46 wants

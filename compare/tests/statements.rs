@@ -32,6 +32,20 @@ fn control(vector: &Vector) -> [Option<u8>; 8] {
     })
 }
 
+/// None of those edits is without its test.
+#[test]
+fn every_edit_has_its_test() {
+    let here = include_str!("statements.rs");
+    for package in ["demands", "damage"] {
+        let folder = format!("{}/../crates/{package}/must-fail", env!("CARGO_MANIFEST_DIR"));
+        for edit in std::fs::read_dir(folder).unwrap() {
+            let path = edit.unwrap().path();
+            let name = path.file_stem().unwrap().to_str().unwrap().to_owned();
+            assert!(here.contains(&format!("fn {name}()")), "{package}/{name} has no test");
+        }
+    }
+}
+
 // ---- crates/demands
 
 #[test]

@@ -8,7 +8,7 @@ use Rattle.sending.specs.Answer as Sending
 use Rattle.sending.proofs.Unique as Sending′
 use Rattle.receiving.specs.Answer as Receiving
 use Rattle.receiving.proofs.Unique as Receiving′
-use Rattle.captures.specs.Captures.{Recorded, body, sentOf, receivedOf, SendsRecord, ReceivesRecord}
+use Rattle.captures.specs.Captures.{body, sentOf, receivedOf, SendsRecord, ReceivesRecord}
 use Rattle.captures.specs.declared.RecordSent.{RecordSent}
 use Rattle.captures.specs.declared.RecordSent.the-variants as Send
 use Rattle.captures.specs.declared.RecordReceived.{RecordReceived}

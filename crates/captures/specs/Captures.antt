@@ -1,12 +1,13 @@
 -- Document 01, 'Capture records': "The body is the part of the file's bytes that starts after the head, handed on as it stands, with no copy"; here to
 -- sending (records of kind 1) or to receiving (kind 2).
-use Prim.Native.Nat.{ℕ}
+use Prim.Native.Nat.{ℕ, _+_}
 use mathlib.Core.Path.{_≡_}
-use mathlib.Core.Bool.{cond}
-use mathlib.Core.List.{List}
-use lib.ListN.{length}
-use lib.Dec.{eqb}
+use mathlib.Core.Bool.{cond, not}
+use mathlib.Core.List.{List, [], _∷_, _++_}
+use lib.ListN.{length, take, drop}
+use lib.Dec.{eqb, leb}
 use Rattle.refusals.specs.Number.{numberOf}
+use Rattle.refusals.specs.First.{Check, checkAt, first, byVerdict}
 use Rattle.records.specs.Record as Record
 use Rattle.sending.specs.Answer as Sending
 use Rattle.receiving.specs.Answer as Receiving
@@ -23,14 +24,17 @@ pub data Recorded (A : Type 0) : Type 0 where
   end : Recorded A
   refused : (number place : ℕ) → Recorded A
 
--- the body of the record that the reader finds, if it is of this kind: "8 .. not the kind it takes", with the place of the head
-abbrev pub ofKind : (kind : ℕ) (file : List ℕ) (at : ℕ) → Record.Answer → Recorded (List ℕ)
-ofKind kind file at (Record.whole k start len next) = cond (eqb k kind) (body (Record.bodyOf file start len)) (refused 8 at)
-ofKind kind file at Record.end = end
-ofKind kind file at (Record.refused number place) = refused number place
+-- "each by the reader, then 8 for the other kind", with the place of the head
+unfoldable pub recordChecks : (kind : ℕ) (file : List ℕ) (at : ℕ) → List Check
+recordChecks kind file at = Record.readChecks Record.bodyLimit file at ++ checkAt 8 at (not (eqb (Record.twoAt file (at + 2)) kind)) ∷ []
 
-abbrev pub bodyOfKind : (kind : ℕ) (file : List ℕ) (at : ℕ) → Recorded (List ℕ)
-bodyOfKind kind file at = ofKind kind file at (Record.readAt Record.bodyLimit file at)
+-- "the part of the file's bytes that starts after the head"
+abbrev pub bodyAt : (file : List ℕ) (at : ℕ) → List ℕ
+bodyAt file at = take (Record.twoAt file at) (drop (at + 4) file)
+
+-- the body of the record at a place, if it is of this kind; "No bytes left, or a place past them, is a plain end of records"
+unfoldable pub bodyOfKind : (kind : ℕ) (file : List ℕ) (at : ℕ) → Recorded (List ℕ)
+bodyOfKind kind file at = cond (leb (length file) at) end (byVerdict (first (recordChecks kind file at)) (body (bodyAt file at)) refused)
 
 -- the document's number and values for each case of the code's answer
 abbrev pub foundOf : (file : List ℕ) → Body → Recorded (List ℕ)

@@ -7,7 +7,7 @@ ghost use mathlib.Core.Path.{_≡_};
 ghost use Rattle.captures.specs.Captures.{bodyOfKind, foundOf, SendsRecord, ReceivesRecord};
 
 // The body of a record, or why there is none.
-pub enum Body {
+enum Body {
     // len bytes from start.
     Part { start: usize, len: usize },
     // No bytes left: a plain end of records.

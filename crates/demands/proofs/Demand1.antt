@@ -17,7 +17,8 @@ use Rattle.receiving.specs.Answer as Receiving
 use Rattle.counters.specs.Counters.{updated, countersAfter}
 use Rattle.counters.specs.declared.Counters.{Counters}
 use Rattle.records.specs.Record as Records
-use Rattle.demands.specs.Demand1.{NoneApplies, FirstApplies, Outcome, succeeds, refuses, Demand1OfSend, Demand1OfReceive, Demand1OfReceiveCounting, Demand1OfWrite, Demand1OfRead, Demand1OfEncode}
+use Rattle.captures.specs.Captures as Captures
+use Rattle.demands.specs.Demand1.{NoneApplies, FirstApplies, Outcome, succeeds, refuses, Demand1OfSend, Demand1OfReceive, Demand1OfReceiveCounting, Demand1OfWrite, OfRecord, Demand1OfSendRecord, Demand1OfReceiveRecord, Demand1OfRead, Demand1OfEncode}
 
 -- ---- the verdict on a list of refusals, and the row that it comes from
 
@@ -128,6 +129,39 @@ demand-1-of-receive-counting line room c r room′ c′ p = outcome checks _ _ _
 pub demand-1-of-write : Demand1OfWrite
 unfolding Records.writeAnswer Records.writtenRoom
 demand-1-of-write kind body room r room′ p = with-room (Records.writeChecks Records.bodyLimit kind body (length room)) _ _ _ _ _ _ (p .0) (p .1)
+
+-- a record's body handed on
+of-record : {A : Type 0} (kind : ℕ) (file : List ℕ) (place : ℕ) (room : List ℕ) (came : Captures.Recorded A) (room′ : List ℕ) (f : List ℕ → A) (g : List ℕ → List ℕ)
+    → came ≡ Captures.answering f (Captures.bodyOfKind kind file place) → room′ ≡ Captures.leaving g room (Captures.bodyOfKind kind file place)
+    → OfRecord {A = A} kind file place room (came, room′) (λ bytes. (f bytes, g bytes))
+unfolding Captures.bodyOfKind
+of-record {A} kind file place room came room′ f g e h = go (leb (length file) place) refl e h
+  where
+    bytes : List ℕ
+    bytes = Captures.bodyAt file place
+
+    by : (v : Verdict)
+        → _≡_ {A = Captures.Recorded A × List ℕ} (Captures.answering f (byVerdict v (Captures.body bytes) Captures.refused), Captures.leaving g room (byVerdict v (Captures.body bytes) Captures.refused))
+        (byVerdict v (Captures.body (f bytes), g bytes) (λ number at. (Captures.refused number at, room)))
+    by accepted = refl
+    by (refused n p) = refl
+
+    go : (b : Bool) → leb (length file) place ≡ b
+        → came ≡ Captures.answering f (cond b Captures.end (byVerdict (first (Captures.recordChecks kind file place)) (Captures.body bytes) Captures.refused))
+        → room′ ≡ Captures.leaving g room (cond b Captures.end (byVerdict (first (Captures.recordChecks kind file place)) (Captures.body bytes) Captures.refused))
+        → OfRecord {A = A} kind file place room (came, room′) (λ bytes. (f bytes, g bytes))
+    go true b e h = inl (leb-true (length file) place b, ap₂ (λ (x : Captures.Recorded A) (y : List ℕ). (x, y)) e h)
+    go false b e h = inr (leb-false (length file) place b, outcome (Captures.recordChecks kind file place) _ _ _ (ap₂ (λ (x : Captures.Recorded A) (y : List ℕ). (x, y)) e h ∙ by (first (Captures.recordChecks kind file place))))
+
+-- sending the vectors of a record
+pub demand-1-of-send-record : Demand1OfSendRecord
+demand-1-of-send-record file place start room r room′ p =
+    of-record 1 file place room (Captures.sentOf r) room′ (λ vectors. Sending.sendAnswer vectors start (length room)) (λ vectors. Sending.sendRoom vectors start room) (p .0) (p .1)
+
+-- receiving the line of a record
+pub demand-1-of-receive-record : Demand1OfReceiveRecord
+demand-1-of-receive-record file place room r room′ p =
+    of-record 2 file place room (Captures.receivedOf r) room′ (λ line. Receiving.receiveAnswer line (length room)) (λ line. Receiving.receiveRoom line room) (p .0) (p .1)
 
 -- reading a record
 pub demand-1-of-read : Demand1OfRead

@@ -20,6 +20,9 @@ use Rattle.counters.specs.declared.Counters.{Counters}
 use Rattle.records.specs.Record as Records
 use Rattle.records.specs.declared.Found.{Found}
 use Rattle.records.specs.declared.Written.{Written}
+use Rattle.captures.specs.Captures as Captures
+use Rattle.captures.specs.declared.RecordSent.{RecordSent}
+use Rattle.captures.specs.declared.RecordReceived.{RecordReceived}
 
 -- no row of a list of refusals applies
 abbrev pub NoneApplies : List Check → Type 0
@@ -78,6 +81,29 @@ Demand1OfWrite =
     (Records.writeAnswerOf r, room′)
     (Records.wrote (length body + 4), Records.recordOf kind body ++ drop (length body + 4) room)
     (λ number place. (Records.unwritten number place, room))
+
+-- ---- entry points that hand a record's body on: a place at or past the end of the file is a plain end of records, and leaves the room as it was;
+-- where no refusal of the record applies, they come to what sending or receiving answers to the body, which starts at the head plus four, and leaves
+
+abbrev pub OfRecord : {A : Type 0} (kind : ℕ) (file : List ℕ) (place : ℕ) (room : List ℕ) (came : Captures.Recorded A × List ℕ) (handed : List ℕ → A × List ℕ) → Type 0
+OfRecord {A} kind file place room came handed =
+    ((length file ≤ place) × (came ≡ (Captures.end, room)))
+    ⊎ ((place < length file)
+    × Outcome {A = Captures.Recorded A × List ℕ} (Captures.recordChecks kind file place) came
+    (Captures.body (handed (Captures.bodyAt file place) .0), handed (Captures.bodyAt file place) .1)
+    (λ number at. (Captures.refused number at, room)))
+
+-- sending the vectors of a record
+abbrev pub Demand1OfSendRecord : Type 0
+Demand1OfSendRecord =
+    (file : List ℕ) (place start : ℕ) (room : List ℕ) (r : RecordSent) (room′ : List ℕ) → Captures.SendsRecord file place start room r room′
+    → OfRecord {A = Sending.SendAnswer} 1 file place room (Captures.sentOf r, room′) (λ vectors. (Sending.sendAnswer vectors start (length room), Sending.sendRoom vectors start room))
+
+-- receiving the line of a record
+abbrev pub Demand1OfReceiveRecord : Type 0
+Demand1OfReceiveRecord =
+    (file : List ℕ) (place : ℕ) (room : List ℕ) (r : RecordReceived) (room′ : List ℕ) → Captures.ReceivesRecord file place room r room′
+    → OfRecord {A = Receiving.ReceiveAnswer} 2 file place room (Captures.receivedOf r, room′) (λ line. (Receiving.receiveAnswer line (length room), Receiving.receiveRoom line room))
 
 -- ---- entry points that change no lent byte: what they come to is their answer
 

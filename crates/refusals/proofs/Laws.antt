@@ -2,11 +2,11 @@
 use Prim.Native.Nat.{ℕ, _<_}
 use mathlib.Core.Path.{_≡_, refl, ap, sym, _∙_}
 use mathlib.Core.Bool.{Bool, true, false, cond}
-use mathlib.Core.List.{List, _∷_}
+use mathlib.Core.List.{List, [], _∷_, _++_}
 use native.Mathlib.Omega.{arith}
 use lib.Dec.{eqb, lit<}
 use Rattle.refusals.specs.Number.{numberOf}
-use Rattle.refusals.specs.First.{Check, accepted, refused, first}
+use Rattle.refusals.specs.First.{Check, Verdict, accepted, refused, first, byVerdict}
 use Rattle.refusals.specs.declared.Refusal.{Refusal}
 use Rattle.refusals.specs.declared.Refusal.the-variants.{TooMuch, NotGroups, StartState, Room, ControlByte, Cut, LongBody, RecordKind}
 
@@ -54,3 +54,13 @@ passed c cs e = go (c .applies) refl e
     go : (b : Bool) → c .applies ≡ b → cond b (refused (c .number) (c .place)) (first cs) ≡ accepted → (c .applies ≡ false) × (first cs ≡ accepted)
     go true h q = absurd (let z : _≡_ {A = ℕ} 0 1 = cc in omega arith)
     go false h q = (h, q)
+
+-- One check more is looked at where no other applies.
+more-by : (b : Bool) (n p : ℕ) (u v last : Verdict) → u ≡ byVerdict v last refused → cond b (refused n p) u ≡ byVerdict (cond b (refused n p) v) last refused
+more-by true n p u v last e = refl
+more-by false n p u v last e = e
+
+pub one-more : (cs : List Check) (c : Check) → first (cs ++ c ∷ []) ≡ byVerdict (first cs) (cond (c .applies) (refused (c .number) (c .place)) accepted) refused
+unfolding first
+one-more [] c = refl
+one-more (d ∷ cs) c = more-by (d .applies) (d .number) (d .place) _ (first cs) _ (one-more cs c)
