@@ -1,6 +1,7 @@
 /* The library from C, by its header alone. Every group runs twice: each lent buffer ends at a page that cannot be touched, then each begins
- * right behind one, so that one byte too far on either side is a crash. What the bytes should be is in the comparison with the second
- * program; here it is what may be touched, what is refused, what stays as it was, and what the header says in numbers and examples. */
+ * right behind one, so that one byte too far on either side is a crash. Those that do not choose an edition themselves run so in each of
+ * the two. What the bytes should be is in the comparison with the second program; here it is what may be touched, what is refused, what
+ * stays as it was, and what the header says in numbers and examples. */
 #define _DEFAULT_SOURCE
 #include "holzmotte.h"
 
@@ -63,6 +64,8 @@ static int all(const uint8_t *p, size_t n, uint8_t b)
 #define SUMMARY 0x5a
 #define COUNTERS 0xc3
 
+static uint64_t edition; /* of the calls */
+
 /* The buffers of one call: `in` is read, `out`, `summary` and receiving's `counters` are lent. */
 static uint8_t *in, *out, *summary, *counters;
 static size_t in_len, out_len, summary_len, counters_len;
@@ -85,7 +88,7 @@ static void lend(size_t in_bytes, size_t out_bytes, size_t summary_bytes)
     lend_counters(HOLZMOTTE_COUNTERS_BYTES, 0);
 }
 
-static const uint8_t IDLE[] = HOLZMOTTE_IDLE_VECTOR, ERROR[] = HOLZMOTTE_ERROR_VECTOR;
+static const uint8_t IDLE[] = HOLZMOTTE_IDLE_VECTOR, LOW_POWER[] = HOLZMOTTE_LOW_POWER_IDLE_VECTOR, ERROR[] = HOLZMOTTE_ERROR_VECTOR;
 static const uint8_t LOCAL_FAULT[] = HOLZMOTTE_LOCAL_FAULT_VECTOR, REMOTE_FAULT[] = HOLZMOTTE_REMOTE_FAULT_VECTOR;
 
 /* Eight idles, again and again; a length that is no multiple of ten ends inside one. */
@@ -104,13 +107,13 @@ static void noise(int of_vectors)
 
 static uint64_t sends(uint64_t start)
 {
-    return holzmotte_send(in, in_len, start, out, out_len, summary, summary_len);
+    return holzmotte_send(edition, in, in_len, start, out, out_len, summary, summary_len);
 }
 
 static uint64_t receives(void)
 {
     memcpy(old_counters, counters, counters_len);
-    return holzmotte_receive(in, in_len, out, out_len, summary, summary_len, counters, counters_len);
+    return holzmotte_receive(edition, in, in_len, out, out_len, summary, summary_len, counters, counters_len);
 }
 
 /* Lends the line that was just sent to receiving. */
@@ -271,6 +274,7 @@ static void counts(unsigned header, uint64_t payload, int word)
 
 static void bad_blocks(void)
 {
+    int in_old = edition == HOLZMOTTE_EDITION_OLD ? HOLZMOTTE_RECEIVE_CONTROL_CODE_FAULTS : 0;
     counts(DATA, 0x00, 0);
     counts(CONTROL, 0x1e, 0);
     counts(0, 0x1e, HOLZMOTTE_RECEIVE_HEADER_FAULTS);
@@ -278,6 +282,10 @@ static void bad_blocks(void)
     counts(CONTROL, 0x00, HOLZMOTTE_RECEIVE_TYPE_FAULTS);
     counts(CONTROL, 0x011e, HOLZMOTTE_RECEIVE_CONTROL_CODE_FAULTS);             /* code 01 */
     counts(CONTROL, 0x3c78f1e3c78f1e1e, HOLZMOTTE_RECEIVE_CONTROL_CODE_FAULTS); /* the error block */
+    counts(CONTROL, 0x061e, in_old);                                            /* code 06 */
+    counts(CONTROL, 0x0c183060c183061e, in_old);                                /* low power idle */
+    counts(CONTROL, 0x30087, in_old);                                           /* code 06 behind a Terminate */
+    counts(CONTROL, 0x3c183060c183061e, HOLZMOTTE_RECEIVE_CONTROL_CODE_FAULTS); /* seven codes 06, and 1e */
     counts(CONTROL, 0x010000004b, HOLZMOTTE_RECEIVE_SET_CODE_FAULTS);           /* ordered set code 1 */
     counts(CONTROL, 0x110000004b, HOLZMOTTE_RECEIVE_CONTROL_CODE_FAULTS);       /* and code 01 */
     group("bad blocks, one at a time, each counted under its reason");
@@ -385,6 +393,14 @@ static void unaligned_counters(void)
     group("counters at every alignment, exact and longer");
 }
 
+/* Is this the result of a call that an edition refuses with this number and place? Where there is no such edition, it is 13 and 0. */
+static int is_refusal(uint64_t result, int number, uint64_t place)
+{
+    if (edition > HOLZMOTTE_EDITION_NEW)
+        number = HOLZMOTTE_NO_EDITION, place = 0;
+    return HOLZMOTTE_NUMBER(result) == number && HOLZMOTTE_PLACE(result) == place;
+}
+
 /* Sends idles, with one control byte spoilt where `spoilt` is an offset in them, and looks for a refusal. */
 static void send_refused(size_t bytes, size_t spoilt, uint64_t start, size_t room, size_t words, int number, uint64_t place)
 {
@@ -392,8 +408,7 @@ static void send_refused(size_t bytes, size_t spoilt, uint64_t start, size_t roo
     idles();
     if (spoilt < bytes)
         in[spoilt] = 16;
-    uint64_t result = sends(start);
-    CHECK(HOLZMOTTE_NUMBER(result) == number && HOLZMOTTE_PLACE(result) == place);
+    CHECK(is_refusal(sends(start), number, place));
     CHECK(refused(HOLZMOTTE_SEND_SUMMARY_BYTES));
 }
 
@@ -401,7 +416,7 @@ static void send_refused(size_t bytes, size_t spoilt, uint64_t start, size_t roo
 #define TOO_HIGH HOLZMOTTE_START_STATES
 #define TOO_MANY (HOLZMOTTE_MAX_VECTOR_BYTES + 1)
 
-static void sending_refusals(void)
+static void send_refusals(void)
 {
     /* with summaries that are exact, longer, one byte short and empty */
     for (int i = 0; i < 4; i++) {
@@ -420,6 +435,11 @@ static void sending_refusals(void)
     for (size_t place = 0; place < 80; place += 5)
         send_refused(80, place, 0, 66, 24, HOLZMOTTE_CONTROL_BYTE, place);
     send_refused(HOLZMOTTE_MAX_VECTOR_BYTES, 999995, 0, 825000, 25, HOLZMOTTE_CONTROL_BYTE, 999995);
+}
+
+static void sending_refusals(void)
+{
+    send_refusals();
     group("sending's refusals, in their order, with short summaries");
 }
 
@@ -427,12 +447,11 @@ static void receive_refused(size_t bytes, size_t room, size_t words, size_t coun
 {
     lend(bytes, room, words);
     lend_counters(counts, COUNTERS);
-    uint64_t result = receives();
-    CHECK(HOLZMOTTE_NUMBER(result) == number && HOLZMOTTE_PLACE(result) == 0);
+    CHECK(is_refusal(receives(), number, 0));
     CHECK(refused(HOLZMOTTE_RECEIVE_SUMMARY_BYTES) && kept(0));
 }
 
-static void receiving_refusals(void)
+static void receive_refusals(void)
 {
     for (int i = 0; i < 16; i++) {
         size_t words = (const size_t[]){96, 104, 95, 0}[i % 4], counts = (const size_t[]){32, 40, 31, 0}[i / 4];
@@ -446,18 +465,40 @@ static void receiving_refusals(void)
         receive_refused(33, 40, words, 32, HOLZMOTTE_NO_ROOM);
     for (size_t counts = 0; counts < 32; counts++)
         receive_refused(33, 40, 96, counts, HOLZMOTTE_NO_ROOM);
+}
+
+static void receiving_refusals(void)
+{
+    receive_refusals();
     group("receiving's refusals, in their order, with short summaries and counters");
+}
+
+/* Every call that is refused in an edition, and calls that are not. Cut to 8 or 32 bits, the last three would be one. */
+static void no_such_edition(void)
+{
+    static const uint64_t UNKNOWN[] = {2, 3, UINT64_MAX, 256, (uint64_t)1 << 32, ((uint64_t)1 << 32) + 1};
+    for (size_t i = 0; i < sizeof UNKNOWN / sizeof *UNKNOWN; i++) {
+        edition = UNKNOWN[i];
+        send_refusals();
+        send_refused(80, NOT_SPOILT, 0, 66, 24, HOLZMOTTE_DONE, 0);
+        send_refused(0, NOT_SPOILT, 0, 0, 24, HOLZMOTTE_DONE, 0);
+        receive_refusals();
+        receive_refused(33, 40, 96, 32, HOLZMOTTE_DONE);
+        receive_refused(0, 0, 96, 32, HOLZMOTTE_DONE);
+        group("no such edition: refused with 13, before every other refusal");
+    }
 }
 
 /* What document 01 calls these, and the example of reading a vector that stands in the header. */
 static void named_octets(void)
 {
     CHECK(memcmp(IDLE, "\x0f\x07\x07\x07\x07\x0f\x07\x07\x07\x07", 10) == 0 && sizeof IDLE == 10);
+    CHECK(memcmp(LOW_POWER, "\x0f\x06\x06\x06\x06\x0f\x06\x06\x06\x06", 10) == 0 && sizeof LOW_POWER == 10);
     CHECK(memcmp(ERROR, "\x0f\xfe\xfe\xfe\xfe\x0f\xfe\xfe\xfe\xfe", 10) == 0 && sizeof ERROR == 10);
     CHECK(memcmp(LOCAL_FAULT, "\x01\x9c\x00\x00\x01\x01\x9c\x00\x00\x01", 10) == 0 && sizeof LOCAL_FAULT == 10);
     CHECK(memcmp(REMOTE_FAULT, "\x01\x9c\x00\x00\x02\x01\x9c\x00\x00\x02", 10) == 0 && sizeof REMOTE_FAULT == 10);
     CHECK(HOLZMOTTE_IDLE == 0x07 && HOLZMOTTE_ERROR == 0xfe && HOLZMOTTE_START == 0xfb && HOLZMOTTE_TERMINATE == 0xfd);
-    CHECK(HOLZMOTTE_SEQUENCE == 0x9c && HOLZMOTTE_SIGNAL == 0x5c);
+    CHECK(HOLZMOTTE_SEQUENCE == 0x9c && HOLZMOTTE_SIGNAL == 0x5c && HOLZMOTTE_LOW_POWER_IDLE == 0x06);
     const uint8_t example[] = {0x0f, 0x07, 0x07, 0x07, 0x07, 0x01, 0xfb, 0x55, 0x55, 0x55};
     for (int i = 0; i < 8; i++) {
         CHECK(holzmotte_is_control(example, i) == (i <= 4));
@@ -526,6 +567,25 @@ static void fault_becomes_another(void)
     group("two flipped bits make a Remote Fault of a Local Fault");
 }
 
+/* The header's words: "72 idle from state 0, bits 17 and 18 of block 65 flipped (line bits 4307 and 4308): vector 66 comes back with 06 as
+ * character 0, and idles. The old edition answers it as the error vector, and both answer vector 65 so". */
+static void idle_becomes_low_power(void)
+{
+    static const uint8_t ONE_06[] = {0x0f, HOLZMOTTE_LOW_POWER_IDLE, 0x07, 0x07, 0x07, HOLZMOTTE_IDLE_WORD};
+    lend(10 * 72, HOLZMOTTE_LINE_ROOM(10 * 72), HOLZMOTTE_SEND_SUMMARY_BYTES);
+    idles();
+    CHECK(sends(0) == HOLZMOTTE_DONE);
+    lend_line();
+    flip(0, 4307);
+    flip(65, 18);
+    CHECK(receives() == HOLZMOTTE_DONE);
+    for (int i = 63; i < 72; i++) {
+        const uint8_t *answer = edition == HOLZMOTTE_EDITION_NEW ? ONE_06 : ERROR;
+        CHECK(memcmp(out + 10 * i, i == 65 ? ERROR : i == 66 ? answer : IDLE, 10) == 0);
+    }
+    group("two flipped bits make low power idle of an idle in the new edition, and an error in the old one");
+}
+
 /* Sends vectors `from` to `to` of a list of idles, a frame of six vectors from number 4 on, and idles; the line goes to `line`. The end
  * state. */
 static uint64_t send_part(int from, int to, uint64_t start, uint8_t *line)
@@ -556,6 +616,271 @@ static void lists_in_two_calls(void)
         CHECK((last != end) == inside);
     }
     group("lists sent in two calls: between frames as in one call, inside a frame with one vector replaced");
+}
+
+#define IDLES "\x0f\x07\x07\x07\x07\x0f\x07\x07\x07\x07"
+#define LOW "\x0f\x06\x06\x06\x06\x0f\x06\x06\x06\x06"
+#define OCTETS "\x00Holz\x00mott"
+#define LOCAL "\x01\x9c\x00\x00\x01\x01\x9c\x00\x00\x01"
+
+/* Lends vectors: 64 idle; a frame, low power idle, a Local Fault and idles that wake the link; a frame and low power idle. */
+#define SAVING 76
+static void lend_saving_vectors(void)
+{
+    lend(10 * SAVING, HOLZMOTTE_LINE_ROOM(10 * SAVING), HOLZMOTTE_SEND_SUMMARY_BYTES);
+    idles();
+    memcpy(in + 10 * 64, START OCTETS TERMINATE LOW LOW LOW LOCAL IDLES START TERMINATE LOW LOW, 10 * 12);
+}
+
+/* Sends them in one edition and receives their line in another. Where both are the new one, all comes back. Else low power idle is an
+ * error, sent or received, and so is each Terminate, of which it is the next block. */
+static void save(uint64_t sender, uint64_t receiver)
+{
+    int whole = sender == HOLZMOTTE_EDITION_NEW && receiver == HOLZMOTTE_EDITION_NEW;
+    edition = sender;
+    lend_saving_vectors();
+    const uint8_t *sent = in;
+    CHECK(sends(0) == HOLZMOTTE_DONE);
+    CHECK(holzmotte_word(summary, HOLZMOTTE_SEND_DIAGRAM) == (sender == HOLZMOTTE_EDITION_NEW ? HOLZMOTTE_LI : HOLZMOTTE_E));
+    CHECK(holzmotte_word(summary, HOLZMOTTE_SEND_REPLACED) == (sender == HOLZMOTTE_EDITION_NEW ? 0 : 5));
+    edition = receiver;
+    lend_line();
+    CHECK(receives() == HOLZMOTTE_DONE);
+    for (int i = 63; i < SAVING; i++) {
+        int error = !whole && ((i >= 66 && i < 70) || i >= 73);
+        CHECK(memcmp(out + 10 * i, error ? ERROR : sent + 10 * i, 10) == 0);
+    }
+    static const uint32_t WHOLE[] = {SAVING, 0, 0, 0, 0, 0, 2, 0}, OTHERWISE[] = {SAVING, 0, 0, 0, 5, 0, 2, 7};
+    for (int i = 0; i < 8; i++)
+        CHECK(holzmotte_counter(counters, i) == (whole ? WHOLE : OTHERWISE)[i]);
+    CHECK(counted() && holzmotte_word(summary, HOLZMOTTE_RECEIVE_ALONE) == 0);
+}
+
+static void saving_link(void)
+{
+    for (uint64_t both = 0; both < 4; both++)
+        save(both / 2, both % 2);
+    group("low power idle comes back in the new edition, and is an error where an end has the old one");
+}
+
+/* Vectors with 06 of each kind: C four times, S, T, LI, and E for its error character. */
+static void low_power_in_each_kind(void)
+{
+    static const uint8_t OF_EACH[8][10] = {
+        {0x0f, 0x06, 0x07, 0x07, 0x07, HOLZMOTTE_IDLE_WORD},
+        {HOLZMOTTE_LOW_POWER_IDLE_WORD, 0x0f, 0x06, 0x06, 0x06, 0x1c},
+        {HOLZMOTTE_LOCAL_FAULT_WORD, HOLZMOTTE_LOW_POWER_IDLE_WORD},
+        {HOLZMOTTE_LOW_POWER_IDLE_WORD, 0x01, HOLZMOTTE_SIGNAL, 1, 2, 3},
+        {HOLZMOTTE_LOW_POWER_IDLE_WORD, 0x01, HOLZMOTTE_START, 0x55, 0x55, 0x55},
+        {0x00, 0x55, 0x55, 0x55, 0xd5, 0x0e, 7, HOLZMOTTE_TERMINATE, 0x06, 0x06},
+        HOLZMOTTE_LOW_POWER_IDLE_VECTOR,
+        {HOLZMOTTE_LOW_POWER_IDLE_WORD, 0x0f, 0x06, 0x06, 0x06, HOLZMOTTE_ERROR},
+    };
+    int is_new = edition == HOLZMOTTE_EDITION_NEW;
+    lend(10 * 72, HOLZMOTTE_LINE_ROOM(10 * 72), HOLZMOTTE_SEND_SUMMARY_BYTES);
+    idles();
+    memcpy(in + 10 * 64, OF_EACH, sizeof OF_EACH);
+    CHECK(sends(0) == HOLZMOTTE_DONE);
+    CHECK(holzmotte_word(summary, HOLZMOTTE_SEND_REPLACED) == (is_new ? 1 : 8));
+    lend_line();
+    CHECK(receives() == HOLZMOTTE_DONE);
+    CHECK(holzmotte_word(summary, HOLZMOTTE_RECEIVE_CONTROL_CODE_FAULTS) == (is_new ? 1 : 8));
+    for (int i = 0; i < 8; i++)
+        CHECK(memcmp(out + 10 * (64 + i), is_new && i < 7 ? OF_EACH[i] : ERROR, 10) == 0);
+    group("06 in vectors of each kind: as sent in the new edition, errors in the old one");
+}
+
+/* To each state but INIT a way from INIT, and to which state each kind leads from there in the new edition. */
+static const struct {
+    const char *way;
+    enum holzmotte_diagram to[6];
+} FROM[] = {
+    {IDLES IDLES IDLES, {HOLZMOTTE_C, HOLZMOTTE_D, HOLZMOTTE_E, HOLZMOTTE_E, HOLZMOTTE_E, HOLZMOTTE_LI}},
+    {IDLES IDLES START, {HOLZMOTTE_E, HOLZMOTTE_E, HOLZMOTTE_D, HOLZMOTTE_T, HOLZMOTTE_E, HOLZMOTTE_E}},
+    {IDLES START TERMINATE, {HOLZMOTTE_C, HOLZMOTTE_D, HOLZMOTTE_E, HOLZMOTTE_E, HOLZMOTTE_E, HOLZMOTTE_LI}},
+    {IDLES IDLES ERRORS, {HOLZMOTTE_C, HOLZMOTTE_E, HOLZMOTTE_D, HOLZMOTTE_T, HOLZMOTTE_E, HOLZMOTTE_LI}},
+    {IDLES IDLES LOW, {HOLZMOTTE_C, HOLZMOTTE_E, HOLZMOTTE_E, HOLZMOTTE_E, HOLZMOTTE_E, HOLZMOTTE_LI}},
+};
+static const char *const OF_KIND[] = {IDLES, START, OCTETS, TERMINATE, ERRORS, LOW};
+
+/* The state in which four vectors end. */
+static enum holzmotte_diagram end_of(const char *three, const char *last)
+{
+    lend(40, 33, HOLZMOTTE_SEND_SUMMARY_BYTES);
+    memcpy(in, three, 30);
+    memcpy(in + 30, last, 10);
+    CHECK(sends(0) == HOLZMOTTE_DONE);
+    return (enum holzmotte_diagram)holzmotte_word(summary, HOLZMOTTE_SEND_DIAGRAM);
+}
+
+/* In the old edition low power idle is of kind E, and there is no way to LI. */
+static void transmit_diagram(void)
+{
+    int is_new = edition == HOLZMOTTE_EDITION_NEW;
+    for (size_t from = 0; from < (is_new ? 5 : 4); from++)
+        for (int kind = 0; kind < 6; kind++)
+            CHECK(end_of(FROM[from].way, OF_KIND[kind]) == (kind == 5 && !is_new ? HOLZMOTTE_E : FROM[from].to[kind]));
+    CHECK(end_of(LOW LOW LOW, LOW) == (is_new ? HOLZMOTTE_LI : HOLZMOTTE_E));
+    CHECK(holzmotte_word(summary, HOLZMOTTE_SEND_REPLACED) == (is_new ? 1 : 4));
+    group("the transmit diagram, from each state by a vector of each kind");
+}
+
+/* Is the line of two lists of four vectors, sent one after the other, that of both in one call? */
+static int joins(const char *first, const char *second)
+{
+    lend(80, 66, HOLZMOTTE_SEND_SUMMARY_BYTES);
+    memcpy(in, first, 40);
+    memcpy(in + 40, second, 40);
+    CHECK(sends(0) == HOLZMOTTE_DONE);
+    const uint8_t *whole = out;
+    lend(40, 33, HOLZMOTTE_SEND_SUMMARY_BYTES);
+    memcpy(in, first, 40);
+    CHECK(sends(0) == HOLZMOTTE_DONE);
+    CHECK(memcmp(out, whole, 33) == 0);
+    uint64_t middle = holzmotte_word(summary, HOLZMOTTE_SEND_STATE);
+    lend(40, 33, HOLZMOTTE_SEND_SUMMARY_BYTES);
+    memcpy(in, second, 40);
+    CHECK(sends(middle) == HOLZMOTTE_DONE);
+    return memcmp(out, whole + 33, 33) == 0;
+}
+
+/* Lists that end in C, T and LI, each with one that begins with idles, a Start and low power idle. */
+static void low_power_in_two_calls(void)
+{
+    static const char *const ENDS[] = {IDLES IDLES IDLES IDLES, IDLES IDLES START TERMINATE, IDLES IDLES LOW LOW};
+    edition = HOLZMOTTE_EDITION_NEW;
+    for (int i = 0; i < 3; i++) {
+        CHECK(joins(ENDS[i], IDLES IDLES IDLES IDLES));
+        CHECK(joins(ENDS[i], START TERMINATE IDLES IDLES) == (i < 2));
+        CHECK(!joins(ENDS[i], LOW LOW LOW LOW));
+    }
+    group("low power idle at the seam of two calls");
+}
+
+/* A Start straight behind low power idle, its block sent by a second call, is good and out of turn. */
+static void start_behind_low_power(void)
+{
+    edition = HOLZMOTTE_EDITION_NEW;
+    lend(10 * 68, HOLZMOTTE_LINE_ROOM(10 * 68), HOLZMOTTE_SEND_SUMMARY_BYTES);
+    idles();
+    memcpy(in + 10 * 66, LOW LOW, 20);
+    CHECK(sends(0) == HOLZMOTTE_DONE);
+    const uint8_t *line = out;
+    uint64_t middle = holzmotte_word(summary, HOLZMOTTE_SEND_STATE);
+    lend(40, 33, HOLZMOTTE_SEND_SUMMARY_BYTES);
+    memcpy(in, START OCTETS TERMINATE IDLES, 40);
+    CHECK(sends(middle) == HOLZMOTTE_DONE);
+    const uint8_t *next = out;
+    lend(33 * 18, 10 * 72, HOLZMOTTE_RECEIVE_SUMMARY_BYTES);
+    memcpy(in, line, 33 * 17);
+    memcpy(in + 33 * 17, next, 33);
+    CHECK(receives() == HOLZMOTTE_DONE);
+    CHECK(memcmp(out + 10 * 66, LOW LOW ERRORS OCTETS TERMINATE IDLES, 60) == 0);
+    CHECK(only_fault(0) && holzmotte_word(summary, HOLZMOTTE_RECEIVE_BEGUN) == 0);
+    group("a Start straight behind low power idle is answered as an error");
+}
+
+/* Did vector n come back as demand 3 has it, with this payload bit of the line flipped, or none where it is negative? The data octets of
+ * a saving link stand in their blocks where they stand in their vectors. */
+static int stands(const uint8_t *sent, int n, int flipped)
+{
+    const uint8_t *was = sent + 10 * n, *is = out + 10 * n;
+    if (memcmp(is, ERROR, 10) == 0)
+        return 1;
+    if (is[0] != was[0] || is[5] != was[5])
+        return 0;
+    for (int bit = 0; bit < 64; bit++) {
+        int i = bit / 8, behind = 64 * n + bit - flipped;
+        int hit = flipped >= 0 && !holzmotte_is_control(was, i) && (behind == 0 || behind == 39 || behind == 58);
+        if (((holzmotte_octet(was, i) ^ holzmotte_octet(is, i)) >> bit % 8 & 1) != hit)
+            return 0;
+    }
+    return 1;
+}
+
+/* A receiver that answers errors alone would do all this but for the last: one flipped bit makes at most three errors. */
+static void one_flip(void)
+{
+    edition = HOLZMOTTE_EDITION_NEW;
+    lend_saving_vectors();
+    const uint8_t *sent = in;
+    CHECK(sends(0) == HOLZMOTTE_DONE);
+    lend_line();
+    for (int n = 66 * 64; n < 66 * SAVING; n++) {
+        int bit = n % 66;
+        flip(0, (size_t)n);
+        CHECK(receives() == HOLZMOTTE_DONE);
+        for (int i = 63; i < SAVING; i++)
+            CHECK(stands(sent, i, bit < 2 ? -1 : 64 * (n / 66) + bit - 2));
+        CHECK(holzmotte_word(summary, HOLZMOTTE_RECEIVE_REPLACED) <= 3);
+        flip(0, (size_t)n);
+    }
+    group("each bit of a saving link's line flipped, in the new edition: errors or changed data octets, and nothing else");
+}
+
+/* The bytes of a file of the stored runs. */
+static uint8_t file[1 << 18];
+static size_t file_len;
+
+static void read_run(const char *program, const char *name, const char *stream)
+{
+    char path[64];
+    snprintf(path, sizeof path, "runs/%s/%s/%s", program, name, stream);
+    FILE *stored = fopen(path, "rb");
+    file_len = stored ? fread(file, 1, sizeof file, stored) : 0;
+    CHECK(stored && file_len > 0 && fclose(stored) == 0);
+}
+
+/* Of the records that were read only the bodies stay. */
+static void keep_bodies(void)
+{
+    size_t len = 0;
+    for (size_t at = 0, body; at < file_len; at += 4 + body, len += body) {
+        body = file[at] + 256u * file[at + 1];
+        memmove(file + len, file + at + 4, body);
+    }
+    file_len = len;
+}
+
+static void stored_sending(const char *name)
+{
+    read_run("sender", name, "stdin");
+    keep_bodies();
+    lend(file_len, HOLZMOTTE_LINE_ROOM(file_len), HOLZMOTTE_SEND_SUMMARY_BYTES);
+    memcpy(in, file, file_len);
+    CHECK(sends(0) == HOLZMOTTE_DONE);
+    read_run("sender", name, "stdout");
+    keep_bodies();
+    CHECK(file_len == out_len && memcmp(file, out, out_len) == 0);
+}
+
+static void stored_receiving(const char *name)
+{
+    static const char *const NAMES[] = {"tested", "slips", "locked", "high"};
+    static char text[1 << 18];
+    size_t len = 0;
+    read_run("receiver", name, "stdin");
+    keep_bodies();
+    lend(file_len, HOLZMOTTE_VECTOR_ROOM(file_len), HOLZMOTTE_RECEIVE_SUMMARY_BYTES);
+    memcpy(in, file, file_len);
+    CHECK(receives() == HOLZMOTTE_DONE);
+    for (size_t i = 0; i < 10 * holzmotte_word(summary, HOLZMOTTE_RECEIVE_VECTORS); i++)
+        len += (size_t)sprintf(text + len, "%02x%s", out[i], i % 10 == 9 ? "\n" : "");
+    for (int i = 0; i < 4; i++)
+        len += (size_t)sprintf(text + len, "%s %d\n", NAMES[i], (int)holzmotte_word(summary, i));
+    read_run("receiver", name, "stdout");
+    CHECK(file_len == len && memcmp(file, text, len) == 0);
+}
+
+static void stored_runs(void)
+{
+    edition = HOLZMOTTE_EDITION_OLD;
+    stored_sending("limit");
+    stored_receiving("damaged");
+    stored_receiving("empty_records");
+    stored_receiving("last_frame");
+    stored_receiving("limit");
+    group("the stored runs of the two programs, in the old edition");
 }
 
 /* A thread's stack that is painted before it runs: what the call touched is not paint any more. */
@@ -628,14 +953,15 @@ static void version_and_texts(void)
     char version[16];
     snprintf(version, sizeof version, "%d.%d.%d", HOLZMOTTE_VERSION_MAJOR, HOLZMOTTE_VERSION_MINOR, HOLZMOTTE_VERSION_PATCH);
     CHECK(strcmp(version, HOLZMOTTE_VERSION) == 0);
-    for (int i = -1; i <= 9; i++)
+    for (int i = -1; i <= 14; i++) {
+        CHECK((strcmp(holzmotte_refusal_text(i), "unknown") == 0) == (i < 0 || (i > 8 && i != 13)));
         for (int k = -1; k < i; k++)
-            CHECK((strcmp(holzmotte_refusal_text(i), holzmotte_refusal_text(k)) == 0) == (k == -1 && i == 9));
-    CHECK(strcmp(holzmotte_refusal_text(9), "unknown") == 0);
+            CHECK(strcmp(holzmotte_refusal_text(i), holzmotte_refusal_text(k)) != 0 || strcmp(holzmotte_refusal_text(i), "unknown") == 0);
+    }
     group("the version's numbers and text; a text of its own for each refusal");
 }
 
-static void groups(void)
+static void in_each_edition(void)
 {
     whole_calls();
     lines_of_every_length();
@@ -648,19 +974,38 @@ static void groups(void)
     unaligned_counters();
     sending_refusals();
     receiving_refusals();
-    named_octets();
     named_vectors();
     fault_becomes_another();
+    idle_becomes_low_power();
     lists_in_two_calls();
+    low_power_in_each_kind();
+    transmit_diagram();
     stack_use();
+}
+
+/* Groups that choose their editions, or call no function. */
+static void besides(void)
+{
+    no_such_edition();
+    saving_link();
+    low_power_in_two_calls();
+    start_behind_low_power();
+    one_flip();
+    stored_runs();
+    named_octets();
     version_and_texts();
 }
 
 int main(void)
 {
     for (at_start = 0; at_start <= 1; at_start++) {
-        puts(at_start ? "buffers begin right behind a protected page:" : "buffers end at a protected page:");
-        groups();
+        const char *where = at_start ? "begin right behind a protected page" : "end at a protected page";
+        for (edition = HOLZMOTTE_EDITION_OLD; edition <= HOLZMOTTE_EDITION_NEW; edition++) {
+            printf("the %s edition, buffers %s:\n", edition == HOLZMOTTE_EDITION_OLD ? "old" : "new", where);
+            in_each_edition();
+        }
+        printf("both editions, buffers %s:\n", where);
+        besides();
     }
     printf("%d passed, %d failed\n", passed, failed);
     return failed != 0;

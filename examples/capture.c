@@ -6,7 +6,8 @@
  *   sender   the line is whole, and the far end sends five errors before its last idles
  *   cut      the capture stops with the byte in which the last frame's Terminate ends
  *   fault    another list: the far end reports Local Fault, and two flipped bits make a Remote Fault of one (the header's example)
- *   faults   the same, with two flipped bits in the second word: the first stays a Local Fault */
+ *   faults   the same, with two flipped bits in the second word: the first stays a Local Fault
+ *   saving   another list, sent in the new edition: between its frames the link goes into low power idle, and idles wake it */
 #include "holzmotte.h"
 
 #include <stdio.h>
@@ -15,7 +16,7 @@
 static uint8_t vectors[HOLZMOTTE_MAX_VECTOR_BYTES], line[HOLZMOTTE_MAX_LINE_BYTES], summary[HOLZMOTTE_SEND_SUMMARY_BYTES];
 static size_t vectors_len;
 
-static const uint8_t IDLE[] = HOLZMOTTE_IDLE_VECTOR, ERROR[] = HOLZMOTTE_ERROR_VECTOR;
+static const uint8_t IDLE[] = HOLZMOTTE_IDLE_VECTOR, LOW_POWER[] = HOLZMOTTE_LOW_POWER_IDLE_VECTOR, ERROR[] = HOLZMOTTE_ERROR_VECTOR;
 static const uint8_t LOCAL_FAULT[] = HOLZMOTTE_LOCAL_FAULT_VECTOR, REMOTE_FAULT[] = HOLZMOTTE_REMOTE_FAULT_VECTOR;
 static const uint8_t START[] = {0x01, HOLZMOTTE_START, 0x55, 0x55, 0x55, 0x00, 0x55, 0x55, 0x55, 0xd5};
 static const uint8_t DATA[] = {0x00, 'H', 'o', 'l', 'z', 0x00, 'm', 'o', 't', 't'};
@@ -69,6 +70,22 @@ static void local_faults(void)
     add(IDLE, 12);
 }
 
+static void saved_energy(void)
+{
+    add(IDLE, 80);
+    frame(8);
+    add(LOW_POWER, 400);
+    add(IDLE, 20);
+    frame(188);
+    frame(8);
+    add(IDLE, 2);
+    add(LOW_POWER, 300);
+    add(IDLE, 20);
+    frame(8);
+    add(LOW_POWER, 60);
+    add(IDLE, 4 - vectors_len / 10 % 4);
+}
+
 /* The bytes of line up to the end of the last frame. */
 static size_t frames(size_t errors)
 {
@@ -92,13 +109,16 @@ int main(int argc, char **argv)
 {
     const char *scene = argc == 2 ? argv[1] : "clean";
     size_t frames_len = 0, fault = strcmp(scene, "fault") == 0 ? 26 : strcmp(scene, "faults") == 0 ? 58 : 0; /* a bit of block 80 */
-    if (fault > 0)
+    int saving = strcmp(scene, "saving") == 0;
+    if (saving)
+        saved_energy();
+    else if (fault > 0)
         local_faults();
     else
         frames_len = frames(strcmp(scene, "sender") == 0 ? 5 : 0);
 
-    uint64_t start = fault > 0 ? 0 : 0x2a5a5a5a5a5a5a5;
-    uint64_t result = holzmotte_send(vectors, vectors_len, start, line, sizeof line, summary, sizeof summary);
+    uint64_t start = fault > 0 ? 0 : 0x2a5a5a5a5a5a5a5, edition = saving ? HOLZMOTTE_EDITION_NEW : HOLZMOTTE_EDITION_OLD;
+    uint64_t result = holzmotte_send(edition, vectors, vectors_len, start, line, sizeof line, summary, sizeof summary);
     if (result != HOLZMOTTE_DONE) {
         fprintf(stderr, "capture: %s\n", holzmotte_refusal_text(HOLZMOTTE_NUMBER(result)));
         return 1;

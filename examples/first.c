@@ -1,4 +1,4 @@
-/* The README's ten lines: a line of nine zero bytes is received. */
+/* The README's eleven lines: a line of nine zero bytes is received. */
 #include "holzmotte.h"
 
 #include <stdio.h>
@@ -7,7 +7,8 @@ int main(void)
 {
     uint8_t line[9] = {0}, vectors[HOLZMOTTE_VECTOR_ROOM(sizeof line)], summary[HOLZMOTTE_RECEIVE_SUMMARY_BYTES];
     uint8_t counters[HOLZMOTTE_COUNTERS_BYTES] = {0}; /* a total over all calls that lend it */
-    uint64_t result = holzmotte_receive(line, sizeof line, vectors, sizeof vectors, summary, sizeof summary, counters, sizeof counters);
+    uint64_t result = holzmotte_receive(HOLZMOTTE_EDITION_OLD, line, sizeof line, vectors, sizeof vectors, summary, sizeof summary,
+                                        counters, sizeof counters);
     if (result != HOLZMOTTE_DONE) {
         printf("refused %d at %llu\n", HOLZMOTTE_NUMBER(result), (unsigned long long)HOLZMOTTE_PLACE(result));
         return 1;

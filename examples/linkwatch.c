@@ -1,12 +1,16 @@
-/* linkwatch CAPTURE ...: tells a person what a 10GBASE-R link was saying, from capture files of line records.
+/* linkwatch [--energy-saving] CAPTURE ...: tells a person what a 10GBASE-R link was saying, from capture files of line records.
+ *
+ * A capture does not say whether Energy Efficient Ethernet was on. With --energy-saving captures are received in the new edition (the
+ * header, "The editions of Clause 49"), and it tells how many vectors were low power idle. Without it they are received in the old one,
+ * where low power idle is an error, and it says where the new one finds fewer control code faults.
  *
  * It gathers a file's line bytes, has the library receive them, and prints how many blocks were bad and why, how many frames began, and
  * one line for each run of vectors that say the same. After several files it prints the total. All that it tells of a link stands in the
  * vectors, summaries and counters that the library answered. A block takes 6.4 ns on the line.
  *
- * It looks at control characters and ordered sets, and at no other data. A few flipped bits show as errors, or else change data octets
- * alone (the header, "What damage can do"): a frame may have wrong data, and a fault may have been another ordered set. Clause 46 wants
- * four of a fault, so a run of fewer is marked.
+ * It looks at control characters and ordered sets, and at no other data. A few flipped bits, in the new edition one, show as errors, or
+ * else change data octets alone (the header, "What damage can do"): a frame may have wrong data, and a fault may have been another ordered
+ * set. Clause 46 wants four of a fault, so a run of fewer is marked.
  *
  * A file that ends inside a record is told up to that record. One that is refused for another reason, or cannot be read, adds nothing to
  * the total, and the next one is told. The exit status is 0, 1 where a file was refused or ends inside a record, 2 where one could not be
@@ -19,9 +23,10 @@
 #include <string.h>
 
 static const char USAGE[] =
-    "usage: linkwatch CAPTURE ...\n"
+    "usage: linkwatch [--energy-saving] CAPTURE ...\n"
     "A capture is a file of records: body length and kind (two bytes each, least significant first), then the body. All are of kind 2,\n"
-    "line bytes: at most 4,092 in a record, and 825,000 in a file.\n";
+    "line bytes: at most 4,092 in a record, and 825,000 in a file.\n"
+    "--energy-saving is for links that have Energy Efficient Ethernet (IEEE 802.3az) on: low power idle is then no error.\n";
 
 #define MOST_BODY 4092
 
@@ -29,7 +34,9 @@ static uint8_t line[HOLZMOTTE_MAX_LINE_BYTES + MOST_BODY], vectors[HOLZMOTTE_MAX
 static uint8_t summary[HOLZMOTTE_RECEIVE_SUMMARY_BYTES], summary_at_lock[HOLZMOTTE_RECEIVE_SUMMARY_BYTES];
 static uint8_t total[HOLZMOTTE_COUNTERS_BYTES], not_told[HOLZMOTTE_COUNTERS_BYTES]; /* not_told: of calls that look for lock */
 static size_t line_len, place; /* place: of the record that is read */
+static size_t lock_len;        /* the line up to the byte with which lock first came; 0 without lock */
 static int told;               /* captures in the total */
+static uint64_t edition = HOLZMOTTE_EDITION_OLD;
 
 /* Gathers the line bytes of a capture file: 0, or the number of the first refusal. A record is body length (2 bytes), kind (2 bytes;
  * 1 vectors, 2 line bytes) and body. */
@@ -57,11 +64,13 @@ static int gather(FILE *file)
 }
 
 /* Has the library receive the first n bytes of the line, and add to these counters: 0, or the number of its refusal. */
-static int receive(size_t n, uint8_t *counters)
+static int receive_in(uint64_t its_edition, size_t n, uint8_t *counters)
 {
     return HOLZMOTTE_NUMBER(
-        holzmotte_receive(line, n, vectors, sizeof vectors, summary, sizeof summary, counters, HOLZMOTTE_COUNTERS_BYTES));
+        holzmotte_receive(its_edition, line, n, vectors, sizeof vectors, summary, sizeof summary, counters, HOLZMOTTE_COUNTERS_BYTES));
 }
+
+static int receive(size_t n, uint8_t *counters) { return receive_in(edition, n, counters); }
 
 static unsigned long word(enum holzmotte_receive_word i) { return (unsigned long)holzmotte_word(summary, i); }
 
@@ -79,6 +88,7 @@ static unsigned long first_lock(void)
 {
     size_t without = 0, with = line_len;
     memset(summary_at_lock, 0, sizeof summary_at_lock);
+    lock_len = 0;
     if (!had_lock(with))
         return 0;
     while (with - without > 1) {
@@ -88,7 +98,7 @@ static unsigned long first_lock(void)
         else
             without = middle;
     }
-    receive(with, not_told);
+    receive(lock_len = with, not_told);
     memcpy(summary_at_lock, summary, sizeof summary);
     return word(HOLZMOTTE_RECEIVE_TESTED);
 }
@@ -98,6 +108,15 @@ static unsigned long first_lock(void)
 static unsigned long since_lock(enum holzmotte_receive_word i)
 {
     return word(i) - (unsigned long)holzmotte_word(summary_at_lock, i);
+}
+
+/* The control code faults since lock first came, as the new edition has them. Lock is the same in both: headers alone make it. */
+static unsigned long code_faults_in_new(void)
+{
+    receive_in(HOLZMOTTE_EDITION_NEW, lock_len, not_told);
+    unsigned long before = word(HOLZMOTTE_RECEIVE_CONTROL_CODE_FAULTS);
+    receive_in(HOLZMOTTE_EDITION_NEW, line_len, not_told);
+    return word(HOLZMOTTE_RECEIVE_CONTROL_CODE_FAULTS) - before;
 }
 
 static const uint8_t *vector(unsigned long n) { return vectors + HOLZMOTTE_VECTOR_BYTES * n; }
@@ -114,15 +133,15 @@ static int has(const uint8_t *v, enum holzmotte_control_character character)
 static int starts(const uint8_t *v) { return has(v, HOLZMOTTE_START); }
 static int ends(const uint8_t *v) { return has(v, HOLZMOTTE_TERMINATE); }
 
-static const uint8_t IDLES[] = HOLZMOTTE_IDLE_VECTOR, ERROR[] = HOLZMOTTE_ERROR_VECTOR;
+static const uint8_t IDLES[] = HOLZMOTTE_IDLE_VECTOR, LOW_POWER[] = HOLZMOTTE_LOW_POWER_IDLE_VECTOR, ERROR[] = HOLZMOTTE_ERROR_VECTOR;
 static const uint8_t LOCAL[] = {HOLZMOTTE_LOCAL_FAULT_WORD}, REMOTE[] = {HOLZMOTTE_REMOTE_FAULT_WORD};
 
 /* How many of the two words of vector v are this one? */
 static int times(const uint8_t *v, const uint8_t *five) { return !memcmp(v, five, 5) + !memcmp(v + 5, five, 5); }
 
-enum says { ERRORS, FRAME, BOTH_FAULTS, REMOTE_FAULT, LOCAL_FAULT, IDLE, OTHER };
+enum says { ERRORS, FRAME, BOTH_FAULTS, REMOTE_FAULT, LOCAL_FAULT, IDLE, LOW_POWER_IDLE, OTHER };
 static const char *const SAYS[] = {"errors",      "frame", "Local Fault and Remote Fault", "Remote Fault",
-                                   "Local Fault", "idle",  "other control characters"};
+                                   "Local Fault", "idle",  "low power idle",               "other control characters"};
 
 static enum says says(const uint8_t *v)
 {
@@ -134,6 +153,8 @@ static enum says says(const uint8_t *v)
         return times(v, LOCAL) > 0 ? BOTH_FAULTS : REMOTE_FAULT;
     if (times(v, LOCAL) > 0)
         return LOCAL_FAULT;
+    if (memcmp(v, LOW_POWER, 10) == 0)
+        return LOW_POWER_IDLE;
     return memcmp(v, IDLES, 10) == 0 ? IDLE : OTHER;
 }
 
@@ -182,13 +203,21 @@ static void print_faults(unsigned long header, unsigned long type, unsigned long
 
 static void print_answers(unsigned long begun, unsigned long replaced)
 {
-    printf("%lu frames begun, %lu vectors replaced by errors\n", begun, replaced);
+    printf("%lu frames begun, %lu vectors replaced by errors", begun, replaced);
+}
+
+static void print_low_power(void)
+{
+    unsigned long low = 0;
+    for (unsigned long n = 0; n < word(HOLZMOTTE_RECEIVE_VECTORS); n++)
+        low += says(vector(n)) == LOW_POWER_IDLE;
+    printf(", %lu vectors of low power idle", low);
 }
 
 /* A payload bit that is damaged on the way shows at three places of the descrambled line: a little damage may hit codes alone, much of
- * it hits headers and types too. A far sender that sends wrong codes, or error blocks, leaves headers and types good. The totals
- * show no more than this, and without lock not even this. */
-static void print_bad_blocks(unsigned long lock)
+ * it hits headers and types too. A far sender that sends wrong codes, or error blocks, leaves headers and types good, and so does one
+ * that sends low power idle, which the old edition does not know. The totals show no more than this, and without lock not even this. */
+static void print_bad_blocks(unsigned long lock, unsigned long code_in_new)
 {
     unsigned long header = since_lock(HOLZMOTTE_RECEIVE_HEADER_FAULTS), type = since_lock(HOLZMOTTE_RECEIVE_TYPE_FAULTS);
     unsigned long code = since_lock(HOLZMOTTE_RECEIVE_CONTROL_CODE_FAULTS), set = since_lock(HOLZMOTTE_RECEIVE_SET_CODE_FAULTS);
@@ -208,11 +237,13 @@ static void print_bad_blocks(unsigned long lock)
         puts("  lock was lost over invalid headers (blocks cut at a wrong place count too): this points to the fibre or a transceiver");
     else if (header + type > 0)
         puts("  headers or types are bad: this points to the fibre or a transceiver");
-    else
+    else if (code_in_new == code)
         puts("  headers and types are good, codes are not: if they are many, this points to the far sender (its error blocks count too)");
+    if (lock > 0 && code_in_new < code)
+        printf("  read with --energy-saving it is %lu control code: the link may have Energy Efficient Ethernet on\n", code_in_new);
 }
 
-static void print_link(unsigned long lock)
+static void print_link(unsigned long lock, unsigned long code_in_new)
 {
     unsigned long count = word(HOLZMOTTE_RECEIVE_VECTORS), from = 0;
     print_tested(word(HOLZMOTTE_RECEIVE_TESTED), word(HOLZMOTTE_RECEIVE_SLIPS));
@@ -222,9 +253,12 @@ static void print_link(unsigned long lock)
         printf("first locked with block %lu", lock - 1);
     printf("; at the end %slocked%s\n", word(HOLZMOTTE_RECEIVE_LOCKED) ? "" : "not ",
            word(HOLZMOTTE_RECEIVE_HIGH) ? ", with a high error rate" : "");
-    print_bad_blocks(lock);
+    print_bad_blocks(lock, code_in_new);
     printf("in the whole capture: ");
     print_answers(word(HOLZMOTTE_RECEIVE_BEGUN), word(HOLZMOTTE_RECEIVE_REPLACED));
+    if (edition == HOLZMOTTE_EDITION_NEW)
+        print_low_power();
+    puts("");
     puts("   block   blocks      duration  what the link says");
     for (unsigned long n = 0; n < count; n++)
         if (n + 1 == count || n + 2 == lock || !goes_on(n)) {
@@ -244,6 +278,7 @@ static void print_total(int captures)
                  count(HOLZMOTTE_COUNT_CONTROL_CODE_FAULTS), count(HOLZMOTTE_COUNT_SET_CODE_FAULTS));
     printf("; ");
     print_answers(count(HOLZMOTTE_COUNT_BEGUN), count(HOLZMOTTE_COUNT_REPLACED));
+    puts("");
 }
 
 static void print_refusal(int number, const char *and_then)
@@ -254,13 +289,13 @@ static void print_refusal(int number, const char *and_then)
 /* Has what was gathered received, and tells it: an exit status. */
 static int tell(void)
 {
-    unsigned long lock = first_lock();
+    unsigned long lock = first_lock(), code_in_new = code_faults_in_new();
     int number = receive(line_len, total);
     if (number != HOLZMOTTE_DONE) {
         print_refusal(number, "");
         return 1;
     }
-    print_link(lock);
+    print_link(lock, code_in_new);
     told++;
     return 0;
 }
@@ -287,23 +322,35 @@ static int watch(const char *name)
     return 1;
 }
 
+/* Takes the option out of the arguments, wherever it stands: how many captures are left, from argv[1] on. */
+static int captures_of(int argc, char **argv)
+{
+    int captures = 0;
+    for (int i = 1; i < argc; i++)
+        if (strcmp(argv[i], "--energy-saving") == 0)
+            edition = HOLZMOTTE_EDITION_NEW;
+        else
+            argv[++captures] = argv[i];
+    return captures;
+}
+
 int main(int argc, char **argv)
 {
-    int worst = 0;
-    if (argc < 2) {
+    int worst = 0, captures = captures_of(argc, argv);
+    if (captures == 0) {
         fputs(USAGE, stderr);
         return 2;
     }
 #ifdef SIGPIPE
     signal(SIGPIPE, SIG_IGN); /* a closed pipe is then output that could not be written */
 #endif
-    for (int i = 1; i < argc; i++) {
-        if (argc > 2)
+    for (int i = 1; i <= captures; i++) {
+        if (captures > 1)
             printf("%s%s:\n", i == 1 ? "" : "\n", argv[i]);
         int status = watch(argv[i]);
         worst = status > worst ? status : worst;
     }
-    if (argc > 2)
+    if (captures > 1)
         print_total(told);
     if (fflush(stdout) != 0 || ferror(stdout)) {
         fputs("linkwatch: the output could not be written\n", stderr);

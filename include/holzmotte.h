@@ -18,6 +18,9 @@
  * to 3. A vector is two words, ten bytes. Line bit n is bit n mod 8, least significant first, of line byte n / 8. A block is 66
  * line bits, so four vectors (40 bytes) give 33 line bytes.
  *
+ * Edition. Each function takes one first: HOLZMOTTE_EDITION_NEW for a link on which Energy Efficient Ethernet (IEEE 802.3az) is on,
+ * HOLZMOTTE_EDITION_OLD for every other. What it changes stands at the two constants.
+ *
  * Result. 0 on success, else refusal number + 256 x place: HOLZMOTTE_NUMBER and HOLZMOTTE_PLACE take it apart. Of several refusals
  * that apply the first is given, in the order that stands at each function. The place is 0 but for refusal 5, where it is the
  * offset in `vectors` of the first control byte above 15.
@@ -38,12 +41,11 @@ extern "C" {
 
 /* The version of this file and of the library that it belongs to. While the major number is 0, a new minor number may append words to a
  * summary, and never moves one, and may add parameters; a new patch number does neither. A program is compiled with the header of its
- * library. Compiled with an earlier one, for a shorter summary, it is refused with 4 by the later library, at every call that is not
- * refused with a number that stands before 4. Nothing notices a call with too few parameters. */
+ * library: nothing notices a call with too few parameters, such as every call that was compiled with a header before 0.6.0. */
 #define HOLZMOTTE_VERSION_MAJOR 0
-#define HOLZMOTTE_VERSION_MINOR 5
+#define HOLZMOTTE_VERSION_MINOR 6
 #define HOLZMOTTE_VERSION_PATCH 0
-#define HOLZMOTTE_VERSION "0.5.0"
+#define HOLZMOTTE_VERSION "0.6.0"
 
 /* So much stack is enough for a call. This is tested, not proved: measured on x86-64, sending takes up to 6.9 KB and receiving up to
  * 7.4 KB; an earlier version took 7.5 KB and 7.2 KB on 64-bit Arm. */
@@ -70,7 +72,7 @@ extern "C" {
 #define HOLZMOTTE_NUMBER(result) ((int)((result) % 256))
 #define HOLZMOTTE_PLACE(result) ((uint64_t)((result) / 256))
 
-/* The refusal numbers. The functions here give 1 to 5; 6, 7 and 8 are for a program that reads capture records. */
+/* The refusal numbers. The functions here give 1 to 5 and 13; 6, 7 and 8 are for a program that reads capture records. */
 enum holzmotte_refusal {
     HOLZMOTTE_DONE = 0,
     HOLZMOTTE_TOO_LONG = 1,     /* more than 1,000,000 vector bytes, or 825,000 line bytes */
@@ -80,7 +82,8 @@ enum holzmotte_refusal {
     HOLZMOTTE_CONTROL_BYTE = 5, /* a control byte above 15; its place is the byte offset of the first */
     HOLZMOTTE_RECORD_CUT = 6,   /* under four head bytes, or a body past the end */
     HOLZMOTTE_RECORD_LONG = 7,  /* a body of more than 4,092 bytes */
-    HOLZMOTTE_RECORD_KIND = 8   /* a kind that is not 1 or 2, or not the one that the program takes */
+    HOLZMOTTE_RECORD_KIND = 8,  /* a kind that is not 1 or 2, or not the one that the program takes */
+    HOLZMOTTE_NO_EDITION = 13   /* an edition that is not 0 or 1 */
 };
 
 /* A refusal number in words, for a person. */
@@ -96,13 +99,37 @@ static inline const char *holzmotte_refusal_text(int number)
     case HOLZMOTTE_RECORD_CUT: return "the file ends inside a record";
     case HOLZMOTTE_RECORD_LONG: return "a record has a body of more than 4,092 bytes";
     case HOLZMOTTE_RECORD_KIND: return "a record is of another kind than is read here";
+    case HOLZMOTTE_NO_EDITION: return "there is no such edition: 0 is the old one, 1 the new one";
     default: return "unknown";
     }
 }
 
+/* The editions of Clause 49. The new one has the low power idle of Energy Efficient Ethernet (IEEE 802.3az): the character 06, by which a
+ * link with nothing to send says that it saves energy. In the old one 06 is an error.
+ *
+ * Which to choose: the new one for a link on which Energy Efficient Ethernet is on, the old one for every other; of damage more is proved
+ * for the old one. A line is received in the edition in which it was sent: all that is said here of a line that was sent supposes it.
+ *
+ * What the new edition changes, and nothing else:
+ *   - The control character 06, with code 06, is valid wherever one may stand.
+ *   - HOLZMOTTE_LOW_POWER_IDLE_VECTOR, eight 06, is of a kind of its own, LI. Every other vector is of the kind that it would have with an
+ *     idle for each 06.
+ *   - Both diagrams have a state LI, number 5. Kind LI leads to it from C, T, E and LI, and to E from INIT and D. From LI, kind C (such as
+ *     idles and ordered sets) leads to C, and every kind but LI and C to E. State LI sends the vector's own block and answers the decoded
+ *     one. So where nothing is replaced, low power idle neither begins a list nor stands inside a frame, and a vector of kind C stands
+ *     between it and a Start.
+ *   - A Terminate is accepted before low power idle too.
+ *   - Code 06 and that of idle differ in two bits; in the old edition any two codes differ in four or more. So what is proved for three
+ *     flipped bits in the old edition is proved for one in the new ("What damage can do").
+ *
+ * Timers and the quiet line stay out: sending gives a block for each vector, and receiving takes every bit that it is lent for one of the
+ * line. A capture record does not say its edition, and the project's two programs, which read and write records, keep to the old one. */
+enum holzmotte_edition { HOLZMOTTE_EDITION_OLD = 0, HOLZMOTTE_EDITION_NEW = 1 };
+
 /* The control characters: what the octet of a lane means where its control bit is set. Where it is not, the octet is data. Besides these,
- * 1c, 3c, 7c, bc, dc and f7 are valid, and reserved. Every other one, 06 too, is an error. */
+ * 1c, 3c, 7c, bc, dc and f7 are valid, and reserved. Every other one is an error. */
 enum holzmotte_control_character {
+    HOLZMOTTE_LOW_POWER_IDLE = 0x06, /* in the new edition; an error in the old one */
     HOLZMOTTE_IDLE = 0x07,
     HOLZMOTTE_SIGNAL = 0x5c,    /* begins a signal ordered set, which is reserved: in lane 0, with data in lanes 1 to 3 */
     HOLZMOTTE_SEQUENCE = 0x9c,  /* begins a sequence ordered set: in lane 0, with data in lanes 1 to 3, such as Local Fault */
@@ -113,10 +140,12 @@ enum holzmotte_control_character {
 
 /* Words and whole vectors, to initialise arrays: uint8_t vector[10] = HOLZMOTTE_IDLE_VECTOR, word[5] = {HOLZMOTTE_IDLE_WORD}; */
 #define HOLZMOTTE_IDLE_WORD 0x0f, 0x07, 0x07, 0x07, 0x07
+#define HOLZMOTTE_LOW_POWER_IDLE_WORD 0x0f, 0x06, 0x06, 0x06, 0x06
 #define HOLZMOTTE_ERROR_WORD 0x0f, 0xfe, 0xfe, 0xfe, 0xfe
 #define HOLZMOTTE_LOCAL_FAULT_WORD 0x01, 0x9c, 0x00, 0x00, 0x01
 #define HOLZMOTTE_REMOTE_FAULT_WORD 0x01, 0x9c, 0x00, 0x00, 0x02
 #define HOLZMOTTE_IDLE_VECTOR {HOLZMOTTE_IDLE_WORD, HOLZMOTTE_IDLE_WORD}
+#define HOLZMOTTE_LOW_POWER_IDLE_VECTOR {HOLZMOTTE_LOW_POWER_IDLE_WORD, HOLZMOTTE_LOW_POWER_IDLE_WORD}
 #define HOLZMOTTE_ERROR_VECTOR {HOLZMOTTE_ERROR_WORD, HOLZMOTTE_ERROR_WORD}
 #define HOLZMOTTE_LOCAL_FAULT_VECTOR {HOLZMOTTE_LOCAL_FAULT_WORD, HOLZMOTTE_LOCAL_FAULT_WORD}
 #define HOLZMOTTE_REMOTE_FAULT_VECTOR {HOLZMOTTE_REMOTE_FAULT_WORD, HOLZMOTTE_REMOTE_FAULT_WORD}
@@ -136,19 +165,27 @@ static inline uint8_t holzmotte_octet(const uint8_t *vector, int i) { return vec
  * By the vector alone the first of these cannot be told from a Local Fault that the far end sent. The summary says whether the receiver is
  * locked and the error rate high at the end of the line (words 2 and 3); for an earlier place receive the line up to there.
  *
- * What damage can do. Of the line sent for any accepted list, from any allowed start state, flip at most three bits, all in block 64 or
- * later, never both header bits of one block. Receiving then answers each vector from number 63 on as the error vector, or with the same
- * control flags, control characters and ordered set codes as the block that was sent; in the second case a data bit differs exactly when
- * an odd number of flipped payload bits stand 0, 39 or 58 payload bits before it. This is proved; of other damage nothing is said.
+ * What comes back. A list of which sending replaced no vector (word 2 of its summary is 0) and whose first 64 vectors are of kind C comes
+ * back unchanged from vector 63 on, in either edition. This is proved.
+ *
+ * What damage can do. Of the line sent for any accepted list, from any allowed start state, flip at most three bits in the old edition, or
+ * one in the new, all in block 64 or later, never both header bits of one block. Receiving then answers each vector from number 63 on as
+ * the error vector, or with the same control flags, control characters and ordered set codes as the block that was sent; in the second
+ * case a data bit differs exactly when an odd number of flipped payload bits stand 0, 39 or 58 payload bits before it. This is proved; of
+ * other damage nothing is said.
  *
  * So data octets can change, and the vector does not show it: those of a frame, whose check sequence is not looked at here, and the three
- * of an ordered set. Under such damage a Local Fault cannot become idle, but it can become a Remote Fault: 72 idle, 16 Local Fault, 12
- * idle from state 0, bits 26 and 27 of block 80 flipped: vector 80 comes back as a Remote Fault (its first word; vector 81 is the error
- * vector).
+ * of an ordered set. Under such damage a Local Fault cannot become idle, but two flipped bits can make a Remote Fault of it: 72 idle,
+ * 16 Local Fault, 12 idle from state 0, bits 26 and 27 of block 80 flipped: vector 80 comes back as a Remote Fault (its first word;
+ * vector 81 is the error vector).
  *
  * So one vector proves no fault. Clause 46 (link fault signaling) takes a fault for given when four fault_sequences of the same value have
  * come, with fewer than 128 columns between one and the next, and for gone after 128 columns without a fault_sequence. A column is a word
- * here, and a fault_sequence a word of Local Fault or Remote Fault. */
+ * here, and a fault_sequence a word of Local Fault or Remote Fault.
+ *
+ * In the new edition two flipped bits can also make a 06 of an idle: 72 idle from state 0, bits 17 and 18 of block 65 flipped (line bits
+ * 4307 and 4308): vector 66 comes back with 06 as character 0, and idles. The old edition answers it as the error vector, and both
+ * answer vector 65 so. */
 
 /* The words of the summaries: 64-bit numbers, least significant byte first, word i at byte 8 * i. */
 enum holzmotte_send_word {
@@ -161,13 +198,14 @@ enum holzmotte_send_word {
  * together they are all the bad blocks among those tested.
  *   - Every tested block is judged, locked or not. Before lock the four say little: blocks may be cut at a wrong place then, and the
  *     descrambler is not settled in the first block of a line and after a slip.
- *   - An error block that the far end sent (type 1e with eight codes 1e) is a control code fault.
+ *   - An error block that the far end sent (type 1e with eight codes 1e) is a control code fault. So is code 06 in the old edition.
  *   - A good block out of turn, such as data outside a frame, may be answered as the error vector: it counts under none of them.
  *
  * Word 9 speaks of the last vector. While the receiver is locked and the error rate not high, a Terminate that may end a frame is
- * accepted where the next block begins a frame or stands between frames (idles, ordered sets), and answered as the error vector where
- * it does not. Where the line stops, in the middle of the next block too, it is judged as if idles followed, and accepted. Then word 9
- * is 1: the same line, longer, may show this vector as an error. For any other last vector, a Terminate out of turn too, it is 0.
+ * accepted where the next block begins a frame or stands between frames (idles, ordered sets, in the new edition low power idle), and
+ * answered as the error vector where it does not. Where the line stops, in the middle of the next block too, it is judged as if idles
+ * followed, and accepted. Then word 9 is 1: the same line, longer, may show this vector as an error. For any other last vector, a
+ * Terminate out of turn too, it is 0.
  *
  * Words 10 and 11 count vectors among those written, the last one too. Word 10 counts those of kind S: they have the Start (fb) of a
  * frame, in lane 0 of their first or second word, and blocks of type 33, 66 and 78 carry them. A Start block that is answered as the
@@ -204,7 +242,7 @@ enum holzmotte_counter_number {
 };
 #define HOLZMOTTE_COUNTER_FULL UINT32_MAX /* 4,294,967,295 */
 
-enum holzmotte_diagram { HOLZMOTTE_INIT = 0, HOLZMOTTE_C = 1, HOLZMOTTE_D = 2, HOLZMOTTE_T = 3, HOLZMOTTE_E = 4 };
+enum holzmotte_diagram { HOLZMOTTE_INIT = 0, HOLZMOTTE_C = 1, HOLZMOTTE_D = 2, HOLZMOTTE_T = 3, HOLZMOTTE_E = 4, HOLZMOTTE_LI = 5 };
 
 /* The number in so many bytes, least significant first. */
 static inline uint64_t holzmotte_number_in(const uint8_t *bytes, int count)
@@ -227,27 +265,31 @@ static inline uint32_t holzmotte_counter(const uint8_t *counters, int i)
 /* Encodes and scrambles a list of vectors, from the transmit diagram's INIT.
  *
  * The scrambler can go on from call to call: word 0 of the summary is the next start state. The diagram cannot. So a frame is not to be
- * split over two calls: a list that begins inside a frame has its first vector sent as the error block. Where a list ends between frames
- * (word 1 is C or T), its line and the next one's are together the line of both lists in one call.
+ * split over two calls: a list that begins inside a frame has its first vector sent as the error block, and so has
+ * one that begins with low power idle. Where a list ends between frames (word 1 is C or T) and the next one does not begin with low power
+ * idle, or where a list ends in low power idle (word 1 is LI) and the next one begins with kind C, their lines are together the line of
+ * both lists in one call.
  *
+ *   edition      an enum holzmotte_edition
  *   vectors      read: the list, a multiple of 40 bytes, at most HOLZMOTTE_MAX_VECTOR_BYTES
  *   start_state  below 2^58; bit i stands for the payload bit i + 1 places before the first
  *   line         written: HOLZMOTTE_LINE_ROOM(vectors_len) bytes
  *   summary      written: HOLZMOTTE_SEND_SUMMARY_BYTES bytes
  *
- * Refusals, in this order: 1, 2, 3, 4 (line or summary too short), 5. */
-uint64_t holzmotte_send(const uint8_t *vectors, size_t vectors_len, uint64_t start_state,
+ * Refusals, in this order: 13, 1, 2, 3, 4 (line or summary too short), 5. */
+uint64_t holzmotte_send(uint64_t edition, const uint8_t *vectors, size_t vectors_len, uint64_t start_state,
                         uint8_t *line, size_t line_len, uint8_t *summary, size_t summary_len);
 
 /* Finds block lock in a line, from a fresh receiver, and gives a vector for each tested block. Each call looks for lock anew.
  *
+ *   edition   an enum holzmotte_edition
  *   line      read: at most HOLZMOTTE_MAX_LINE_BYTES; bits at its end that fill no block are not tested
  *   vectors   at least HOLZMOTTE_VECTOR_ROOM(line_len) bytes; written: ten for each tested block
  *   summary   written: HOLZMOTTE_RECEIVE_SUMMARY_BYTES bytes
  *   counters  read and written: HOLZMOTTE_COUNTERS_BYTES bytes; the total before the call, and after it
  *
- * Refusals, in this order: 1, 4 (vectors, summary or counters too short). */
-uint64_t holzmotte_receive(const uint8_t *line, size_t line_len, uint8_t *vectors, size_t vectors_len,
+ * Refusals, in this order: 13, 1, 4 (vectors, summary or counters too short). */
+uint64_t holzmotte_receive(uint64_t edition, const uint8_t *line, size_t line_len, uint8_t *vectors, size_t vectors_len,
                            uint8_t *summary, size_t summary_len, uint8_t *counters, size_t counters_len);
 
 #ifdef __cplusplus

@@ -1,12 +1,13 @@
-//! The fast version keeps the library's contract: same result and same bytes, on many short calls, refused ones too, and on lines over
-//! several windows of the error rate.
+//! The fast version keeps the library's contract: same result and same bytes, on many short calls in both editions, refused ones too,
+//! and on lines over several windows of the error rate.
 use crate::fast;
 use compare::library;
-use compare::lines::{control, idle, until_high, Line};
+use compare::lines::{control, idle, of_any_kind, until_high, Line};
 use compare::lists;
 use compare::random::Random;
-use compare::reference::block::{put, Kind, FORMATS};
+use compare::reference::block::{kinds, put, Kind, FORMATS};
 use compare::reference::diagrams::WINDOW;
+use compare::reference::edition::{Edition, EDITIONS};
 use compare::reference::vector::LOCAL_FAULT;
 
 /// Calls both with lent slices of this content.
@@ -16,22 +17,27 @@ fn same<const N: usize>(lent: [Vec<u8>; N], call: impl Fn(&mut [Vec<u8>; N], boo
     assert!(results[0] == results[1] && lents[0] == lents[1], "the fast version differs");
 }
 
-fn same_sent(vectors: &[u8], start: u64, room: usize, summary_room: usize) {
+fn same_sent(edition: u64, vectors: &[u8], start: u64, room: usize, summary_room: usize) {
     same([vec![0xa5; room], vec![0x5a; summary_room]], |[line, summary], by_library| {
         let send = if by_library { library::send } else { fast::send };
-        send(vectors, start, line, summary)
+        send(edition, vectors, start, line, summary)
     });
 }
 
-fn same_received(line: &[u8], room: usize, summary_room: usize, counters: Vec<u8>) {
+fn same_received(edition: u64, line: &[u8], room: usize, summary_room: usize, counters: Vec<u8>) {
     same([vec![0xa5; room], vec![0x5a; summary_room], counters], |[vectors, summary, counters], by_library| {
         let receive = if by_library { library::receive } else { fast::receive };
-        receive(line, vectors, summary, counters)
+        receive(edition, line, vectors, summary, counters)
     });
 }
 
-fn sending(random: &mut Random) {
-    let mut vectors = lists::list(4 * random.below(30), random.pick(&[0, 300]), random);
+/// The number of an edition, or of none at times.
+fn number(edition: Edition, random: &mut Random) -> u64 {
+    edition as u64 + if random.once_in(16) { 2 << random.below(63) } else { 0 }
+}
+
+fn sending(edition: Edition, random: &mut Random) {
+    let mut vectors = lists::list(edition, 4 * random.below(30), random.pick(&[0, 300]), random);
     if random.once_in(8) {
         vectors.truncate(vectors.len().saturating_sub(7));
     }
@@ -41,21 +47,21 @@ fn sending(random: &mut Random) {
     }
     let start = random.start_state() + if random.once_in(8) { 1 << 58 } else { 0 };
     let room = (vectors.len() / 40 * 33 + 3).saturating_sub(random.below(5));
-    same_sent(&vectors, start, room, 27 - random.below(5));
+    same_sent(number(edition, random), &vectors, start, room, 27 - random.below(5));
 }
 
-fn receiving(random: &mut Random) {
-    let vectors = lists::list_after_lock(4 * random.below(100), 20, random);
-    let mut line = Line::of_list(&vectors, random.start_state());
+fn receiving(edition: Edition, random: &mut Random) {
+    let vectors = lists::list_after_lock(edition, 4 * random.below(100), 20, random);
+    let mut line = Line::of_list(edition, &vectors, random.start_state());
     line.cut(0, random.below(66).min(line.bits.len()));
     if !line.bits.is_empty() {
         line.flip_some(random.below(40), 0, random);
     }
-    receiving_line(&line, random);
+    receiving_line(edition, &line, random);
 }
 
 /// Blocks of every type with any codes, by a receiver that is locked, high or neither.
-fn receiving_bad_blocks(random: &mut Random) {
+fn receiving_bad_blocks(edition: Edition, random: &mut Random) {
     let mut blocks = match random.below(3) {
         0 => vec![],
         1 => vec![idle(); 64],
@@ -66,26 +72,38 @@ fn receiving_bad_blocks(random: &mut Random) {
         put(&mut block.payload, 0, 8, format.type_byte);
         blocks.push(block);
     }
-    receiving_line(&Line::of_blocks(&blocks, random.start_state()), random);
+    receiving_line(edition, &Line::of_blocks(&blocks, random.start_state()), random);
+}
+
+/// Blocks of all kinds, each after each other one, as no sender sends them. Half of the lines have so many invalid headers that lock is
+/// lost, after a block of any kind.
+fn receiving_out_of_turn(edition: Edition, random: &mut Random) {
+    let mut blocks = vec![idle(); 64];
+    blocks.extend((0..60).map(|_| of_any_kind(edition, random)));
+    let mut line = Line::of_blocks(&blocks, random.start_state());
+    if random.once_in(2) {
+        (64..blocks.len()).filter(|_| random.once_in(3)).for_each(|block| line.spoil_header(block));
+    }
+    receiving_line(edition, &line, random);
 }
 
 /// A frame whose Terminate is the last block, or has one block of any kind after it.
-fn receiving_last_frame(random: &mut Random) {
+fn receiving_last_frame(edition: Edition, random: &mut Random) {
     let mut vectors = lists::idle().repeat(64);
     vectors.extend(lists::start());
-    vectors.extend(lists::of_kind(Kind::T, random));
+    vectors.extend(lists::of_kind(edition, Kind::T, random));
     if random.once_in(2) {
-        vectors.extend(lists::of_kind(random.pick(&[Kind::D, Kind::C, Kind::S, Kind::T, Kind::E]), random));
+        vectors.extend(lists::of_kind(edition, random.pick(kinds(edition)), random));
     }
-    receiving_line(&Line::of_list(&vectors, random.start_state()), random);
+    receiving_line(edition, &Line::of_list(edition, &vectors, random.start_state()), random);
 }
 
-fn receiving_line(line: &Line, random: &mut Random) {
+fn receiving_line(edition: Edition, line: &Line, random: &mut Random) {
     let line = line.bytes();
     let room = (8 * line.len() / 66 * 10 + 3).saturating_sub(random.below(5));
     let [summary, counters] =
         [library::RECEIVE_SUMMARY_BYTES, library::COUNTERS_BYTES].map(|n| n + 3 - random.below(5));
-    same_received(&line, room, summary, random.counters(counters));
+    same_received(number(edition, random), &line, room, summary, random.counters(counters));
 }
 
 /// Invalid headers in one window after the other: 16 set `high`, and the end of a window with fewer clears it.
@@ -93,7 +111,7 @@ const INVALID: [usize; 5] = [16, 15, 16, 16, 0];
 
 /// A line over whole windows, each with so many invalid headers, from its first block on or from its last block back; too far apart to
 /// lose lock. `high` is looked at where a window ends: its last block is already answered by it.
-fn receiving_windows(from_last: bool, random: &mut Random) {
+fn receiving_windows(edition: Edition, from_last: bool, random: &mut Random) {
     let window = WINDOW as usize;
     let mut line = Line::of_blocks(&vec![idle(); 64 + INVALID.len() * window + 4], random.start_state());
     for (i, invalid) in INVALID.into_iter().enumerate() {
@@ -103,28 +121,35 @@ fn receiving_windows(from_last: bool, random: &mut Random) {
         }
     }
     let line = line.bytes();
-    let (vectors, _) = library::received(&line);
+    let (vectors, _) = library::received(edition, &line);
     for (i, invalid) in INVALID.into_iter().enumerate() {
         let last = 64 + (i + 1) * window - 1;
         let high = vectors[10 * last..10 * last + 10] == LOCAL_FAULT;
         assert_eq!(high, invalid == 16, "high at the end of window {i}");
     }
     let room = 8 * line.len() / 66 * 10;
-    same_received(&line, room, library::RECEIVE_SUMMARY_BYTES, random.counters(library::COUNTERS_BYTES));
+    let counters = random.counters(library::COUNTERS_BYTES);
+    same_received(edition as u64, &line, room, library::RECEIVE_SUMMARY_BYTES, counters);
+}
+
+fn check_in(edition: Edition, random: &mut Random) {
+    for from_last in [false, true] {
+        receiving_windows(edition, from_last, random);
+    }
+    for _ in 0..2_000 {
+        sending(edition, random);
+        receiving(edition, random);
+        receiving_bad_blocks(edition, random);
+        receiving_out_of_turn(edition, random);
+        receiving_last_frame(edition, random);
+    }
+    let too_long = vec![0; 1_000_040];
+    same_sent(edition as u64, &too_long, 0, 825_033, 24);
+    let counters = vec![0; library::COUNTERS_BYTES];
+    same_received(edition as u64, &too_long[..825_001], 1_000_010, library::RECEIVE_SUMMARY_BYTES, counters);
 }
 
 pub fn check() {
     let mut random = Random::new(3);
-    for from_last in [false, true] {
-        receiving_windows(from_last, &mut random);
-    }
-    for _ in 0..2_000 {
-        sending(&mut random);
-        receiving(&mut random);
-        receiving_bad_blocks(&mut random);
-        receiving_last_frame(&mut random);
-    }
-    let too_long = vec![0; 1_000_040];
-    same_sent(&too_long, 0, 825_033, 24);
-    same_received(&too_long[..825_001], 1_000_010, library::RECEIVE_SUMMARY_BYTES, vec![0; library::COUNTERS_BYTES]);
+    EDITIONS.into_iter().for_each(|edition| check_in(edition, &mut random));
 }

@@ -1,38 +1,54 @@
 //! Sending and receiving as a good programmer would write them: a block at a time, 64 bits at once, small tables. Same contract as the
 //! library, nothing proved. The benchmark times it beside the library once the two have given the same bytes.
 
-/// 7-bit code of each control octet, and octet of each 7-bit code; `NONE` where there is none.
-const NONE: u8 = 0x80;
-const CHARACTERS: [(u8, u8); 8] =
-    [(0x07, 0x00), (0xfe, 0x1e), (0x1c, 0x2d), (0x3c, 0x33), (0x7c, 0x4b), (0xbc, 0x55), (0xdc, 0x66), (0xf7, 0x78)];
-static CODE: [u8; 256] = codes();
-static OCTET: [u8; 128] = octets();
+/// Control octets and their 7-bit codes. The new edition adds the last, low power idle.
+#[rustfmt::skip]
+const CHARACTERS: [(u8, u8); 9] = [
+    (0x07, 0x00), (0xfe, 0x1e), (0x1c, 0x2d), (0x3c, 0x33), (0x7c, 0x4b), (0xbc, 0x55), (0xdc, 0x66), (0xf7, 0x78),
+    (0x06, 0x06),
+];
 
-const fn codes() -> [u8; 256] {
-    let mut table = [NONE; 256];
-    let mut i = 0;
-    while i < 8 {
-        table[CHARACTERS[i].0 as usize] = CHARACTERS[i].1;
-        i += 1;
-    }
-    table
+/// What the characters of an edition are.
+struct Tables {
+    /// 7-bit code of each control octet; `NONE` where there is none.
+    code: [u8; 256],
+    /// Octet of each 7-bit code. No control character is 0, so 0 says that there is none.
+    octet: [u8; 128],
+    /// Is low power idle one of them?
+    low_power: bool,
 }
 
-/// No control character is 0, so 0 says that there is none.
-const fn octets() -> [u8; 128] {
-    let mut table = [0; 128];
+const NONE: u8 = 0x80;
+static OLD: Tables = tables(8);
+static NEW: Tables = tables(9);
+
+/// The tables of the first `count` characters.
+const fn tables(count: usize) -> Tables {
+    let mut tables = Tables { code: [NONE; 256], octet: [0; 128], low_power: count == 9 };
     let mut i = 0;
-    while i < 8 {
-        table[CHARACTERS[i].1 as usize] = CHARACTERS[i].0;
+    while i < count {
+        let (octet, code) = CHARACTERS[i];
+        tables.code[octet as usize] = code;
+        tables.octet[code as usize] = octet;
         i += 1;
     }
-    table
+    tables
+}
+
+fn tables_of(edition: u64) -> Option<&'static Tables> {
+    match edition {
+        0 => Some(&OLD),
+        1 => Some(&NEW),
+        _ => None,
+    }
 }
 
 const IDLES: u64 = 0x0707_0707_0707_0707;
+const LOW_POWER: u64 = 0x0606_0606_0606_0606;
 const ERRORS: u64 = 0xfefe_fefe_fefe_fefe;
 const LOCAL_FAULT: u64 = 0x0100_009c_0100_009c;
 const IDLE_PAYLOAD: u64 = 0x1e;
+const LOW_POWER_PAYLOAD: u64 = 0x0c18_3060_c183_061e;
 const ERROR_PAYLOAD: u64 = 0x3c78_f1e3_c78f_1e1e;
 const DATA: u64 = 2;
 const CONTROL: u64 = 1;
@@ -48,6 +64,7 @@ enum Kind {
     S,
     T,
     E,
+    LI,
     /// Of a received block that leaves the receiver not locked or high.
     Down,
 }
@@ -60,6 +77,7 @@ enum State {
     D,
     T,
     E,
+    LI,
 }
 
 fn put_words(summary: &mut [u8], words: &[u64]) {
@@ -90,10 +108,10 @@ fn load64(bytes: &[u8], at: usize) -> u64 {
 
 /// The 7-bit codes of characters `from` to `to`, packed; `None` where one has no code.
 #[inline(always)]
-fn pack_codes(octets: u64, from: u32, to: u32) -> Option<u64> {
+fn pack_codes(tables: &Tables, octets: u64, from: u32, to: u32) -> Option<u64> {
     let (mut packed, mut bad) = (0, 0);
     for i in from..to {
-        let code = CODE[(octets >> (8 * i)) as u8 as usize];
+        let code = tables.code[(octets >> (8 * i)) as u8 as usize];
         bad |= code & NONE;
         packed |= ((code & 127) as u64) << (7 * (i - from));
     }
@@ -110,22 +128,22 @@ fn o_code(octet: u64) -> Option<u64> {
     }
 }
 
-/// Kind and payload of a vector with a control character; `flags` has a bit for each control character.
-fn encode(flags: u64, octets: u64) -> Option<(Kind, u64)> {
+/// Kind and payload of a vector with a control character and not all low power idle; `flags` has a bit for each control character.
+fn encode(tables: &Tables, flags: u64, octets: u64) -> Option<(Kind, u64)> {
     let (first, fifth) = (octets as u8, (octets >> 32) as u8);
     let low_data = (octets >> 8) & 0xff_ffff; // D1 to D3
     let high_data = (octets >> 40) << 40; // D5 to D7, in their place in the payload
     match flags {
-        0xff if first == 0xfd => Some((Kind::T, 0x87 | pack_codes(octets, 1, 8)? << 15)),
+        0xff if first == 0xfd => Some((Kind::T, 0x87 | pack_codes(tables, octets, 1, 8)? << 15)),
         0xff => {
-            let codes = pack_codes(octets, 0, 8)?;
+            let codes = pack_codes(tables, octets, 0, 8)?;
             let has_error = (0..8).any(|i| (codes >> (7 * i)) & 127 == 0x1e);
             Some((if has_error { Kind::E } else { Kind::C }, 0x1e | codes << 8))
         }
-        0x1f if fifth == 0xfb => Some((Kind::S, 0x33 | pack_codes(octets, 0, 4)? << 8 | high_data)),
+        0x1f if fifth == 0xfb => Some((Kind::S, 0x33 | pack_codes(tables, octets, 0, 4)? << 8 | high_data)),
         0x1f => {
             let o = o_code(octets >> 32)?;
-            Some((Kind::C, 0x2d | pack_codes(octets, 0, 4)? << 8 | o << 36 | high_data))
+            Some((Kind::C, 0x2d | pack_codes(tables, octets, 0, 4)? << 8 | o << 36 | high_data))
         }
         0x11 if fifth == 0xfb => Some((Kind::S, 0x66 | low_data << 8 | o_code(octets)? << 32 | high_data)),
         0x11 => {
@@ -135,29 +153,29 @@ fn encode(flags: u64, octets: u64) -> Option<(Kind, u64)> {
         0x01 if first == 0xfb => Some((Kind::S, 0x78 | octets & !0xff)),
         0xf1 => {
             let o = o_code(octets)?;
-            Some((Kind::C, 0x4b | low_data << 8 | o << 32 | pack_codes(octets, 4, 8)? << 36))
+            Some((Kind::C, 0x4b | low_data << 8 | o << 32 | pack_codes(tables, octets, 4, 8)? << 36))
         }
-        0xfe => terminate(octets, 1),
-        0xfc => terminate(octets, 2),
-        0xf8 => terminate(octets, 3),
-        0xf0 => terminate(octets, 4),
-        0xe0 => terminate(octets, 5),
-        0xc0 => terminate(octets, 6),
-        0x80 => terminate(octets, 7),
+        0xfe => terminate(tables, octets, 1),
+        0xfc => terminate(tables, octets, 2),
+        0xf8 => terminate(tables, octets, 3),
+        0xf0 => terminate(tables, octets, 4),
+        0xe0 => terminate(tables, octets, 5),
+        0xc0 => terminate(tables, octets, 6),
+        0x80 => terminate(tables, octets, 7),
         _ => None,
     }
 }
 
 /// Terminate at `k`, from 1 to 7: k data octets, 7 - k unused bits, 7 - k codes at the top.
 #[inline(always)]
-fn terminate(octets: u64, k: u32) -> Option<(Kind, u64)> {
+fn terminate(tables: &Tables, octets: u64, k: u32) -> Option<(Kind, u64)> {
     if (octets >> (8 * k)) as u8 != 0xfd {
         return None;
     }
     let data = (octets & ((1 << (8 * k)) - 1)) << 8;
     let codes = match octets >> (8 * k + 7) >> 1 {
         rest if rest == IDLES >> (8 * k + 7) >> 1 => 0,
-        _ => pack_codes(octets, k + 1, 8)?,
+        _ => pack_codes(tables, octets, k + 1, 8)?,
     };
     let codes = if k < 7 { codes << (64 - 7 * (7 - k)) } else { 0 };
     Some((Kind::T, TERMINATES[k as usize] | data | codes))
@@ -165,17 +183,18 @@ fn terminate(octets: u64, k: u32) -> Option<(Kind, u64)> {
 
 fn transmit(state: State, kind: Kind) -> State {
     match (state, kind) {
-        (State::Init | State::C | State::T, Kind::C) => State::C,
+        (State::Init | State::C | State::T | State::E | State::LI, Kind::C) => State::C,
         (State::Init | State::C | State::T, Kind::S) => State::D,
         (State::D | State::E, Kind::D) => State::D,
         (State::D | State::E, Kind::T) => State::T,
-        (State::E, Kind::C) => State::C,
+        (State::C | State::T | State::E | State::LI, Kind::LI) => State::LI,
         _ => State::E,
     }
 }
 
-/// What sending carries from block to block: the last payload sent, the diagram, the count.
+/// What sending carries from block to block: the characters, the last payload sent, the diagram, the count.
 struct Sender {
+    tables: &'static Tables,
     last: u64,
     state: State,
     replaced: u64,
@@ -190,7 +209,8 @@ impl Sender {
         let (kind, header, payload) = match (flags, octets) {
             (0, _) => (Kind::D, DATA, octets),
             (0xff, IDLES) => (Kind::C, CONTROL, IDLE_PAYLOAD),
-            _ => match encode(flags, octets) {
+            (0xff, LOW_POWER) if self.tables.low_power => (Kind::LI, CONTROL, LOW_POWER_PAYLOAD),
+            _ => match encode(self.tables, flags, octets) {
                 Some((kind, payload)) => (kind, CONTROL, payload),
                 None => (Kind::E, CONTROL, ERROR_PAYLOAD),
             },
@@ -214,7 +234,10 @@ impl Sender {
 }
 
 #[inline(never)]
-pub fn send(vectors: &[u8], start: u64, line: &mut [u8], summary: &mut [u8]) -> u64 {
+pub fn send(edition: u64, vectors: &[u8], start: u64, line: &mut [u8], summary: &mut [u8]) -> u64 {
+    let Some(tables) = tables_of(edition) else {
+        return refuse(summary, 3, 13, 0);
+    };
     let wanted = vectors.len() / 40 * 33;
     if vectors.len() > 1_000_000 {
         return refuse(summary, 3, 1, 0);
@@ -231,7 +254,7 @@ pub fn send(vectors: &[u8], start: u64, line: &mut [u8], summary: &mut [u8]) -> 
     if let Some(word) = vectors.chunks_exact(5).position(|word| word[0] > 15) {
         return refuse(summary, 3, 5, 5 * word);
     }
-    let mut sender = Sender { last: start.reverse_bits(), state: State::Init, replaced: 0 };
+    let mut sender = Sender { tables, last: start.reverse_bits(), state: State::Init, replaced: 0 };
     for (group, out) in vectors.chunks_exact(40).zip(line[..wanted].chunks_exact_mut(33)) {
         send_group(&mut sender, group, out);
     }
@@ -276,13 +299,13 @@ enum Fault {
 
 /// `n` control characters from packed codes.
 #[inline(always)]
-fn unpack_codes(codes: u64, n: u32) -> Result<u64, Fault> {
+fn unpack_codes(tables: &Tables, codes: u64, n: u32) -> Result<u64, Fault> {
     if codes == 0 {
         return Ok(if n == 0 { 0 } else { IDLES >> (64 - 8 * n) });
     }
     let (mut octets, mut bad) = (0, false);
     for i in 0..n {
-        let octet = OCTET[(codes >> (7 * i)) as usize & 127];
+        let octet = tables.octet[(codes >> (7 * i)) as usize & 127];
         bad |= octet == 0;
         octets |= (octet as u64) << (8 * i);
     }
@@ -301,44 +324,45 @@ fn o_octet(code: u64) -> Result<u64, Fault> {
     }
 }
 
-/// Kind, control flags and octets of a control block. Control codes are looked at before ordered set codes.
-fn decode(payload: u64) -> Result<(Kind, u8, u64), Fault> {
+/// Kind, control flags and octets of a control block that is not all low power idle. Control codes are looked at before ordered set
+/// codes.
+fn decode(tables: &Tables, payload: u64) -> Result<(Kind, u8, u64), Fault> {
     let low_data = (payload >> 8) & 0xff_ffff; // D1 to D3
     let high_data = (payload >> 40) << 40; // D5 to D7, in their place in the vector
     let low_codes = (payload >> 8) & 0xfff_ffff; // C0 to C3
     let (o, p) = (payload >> 32, payload >> 36);
     match payload as u8 {
         0x1e => {
-            let octets = unpack_codes(payload >> 8, 8)?;
+            let octets = unpack_codes(tables, payload >> 8, 8)?;
             let has_error = (0..8).any(|i| (octets >> (8 * i)) as u8 == 0xfe);
             if has_error {
                 return Err(Fault::ControlCode);
             }
             Ok((Kind::C, 0xff, octets))
         }
-        0x2d => Ok((Kind::C, 0x1f, unpack_codes(low_codes, 4)? | o_octet(p)? << 32 | high_data)),
-        0x33 => Ok((Kind::S, 0x1f, unpack_codes(low_codes, 4)? | 0xfb << 32 | high_data)),
+        0x2d => Ok((Kind::C, 0x1f, unpack_codes(tables, low_codes, 4)? | o_octet(p)? << 32 | high_data)),
+        0x33 => Ok((Kind::S, 0x1f, unpack_codes(tables, low_codes, 4)? | 0xfb << 32 | high_data)),
         0x66 => Ok((Kind::S, 0x11, o_octet(o)? | low_data << 8 | 0xfb << 32 | high_data)),
         0x55 => Ok((Kind::C, 0x11, o_octet(o)? | low_data << 8 | o_octet(p)? << 32 | high_data)),
         0x78 => Ok((Kind::S, 0x01, (payload & !0xff) | 0xfb)),
-        0x4b => Ok((Kind::C, 0xf1, unpack_codes(p, 4)? << 32 | o_octet(o)? | low_data << 8)),
-        0x87 => ended(payload, 0),
-        0x99 => ended(payload, 1),
-        0xaa => ended(payload, 2),
-        0xb4 => ended(payload, 3),
-        0xcc => ended(payload, 4),
-        0xd2 => ended(payload, 5),
-        0xe1 => ended(payload, 6),
-        0xff => ended(payload, 7),
+        0x4b => Ok((Kind::C, 0xf1, unpack_codes(tables, p, 4)? << 32 | o_octet(o)? | low_data << 8)),
+        0x87 => ended(tables, payload, 0),
+        0x99 => ended(tables, payload, 1),
+        0xaa => ended(tables, payload, 2),
+        0xb4 => ended(tables, payload, 3),
+        0xcc => ended(tables, payload, 4),
+        0xd2 => ended(tables, payload, 5),
+        0xe1 => ended(tables, payload, 6),
+        0xff => ended(tables, payload, 7),
         _ => Err(Fault::Type),
     }
 }
 
 /// A block with Terminate at `k`.
 #[inline(always)]
-fn ended(payload: u64, k: u32) -> Result<(Kind, u8, u64), Fault> {
+fn ended(tables: &Tables, payload: u64, k: u32) -> Result<(Kind, u8, u64), Fault> {
     let data = (payload >> 8) & ((1 << (8 * k)) - 1);
-    let codes = if k < 7 { unpack_codes(payload >> (15 + 7 * k), 7 - k)? << (8 * k) << 8 } else { 0 };
+    let codes = if k < 7 { unpack_codes(tables, payload >> (15 + 7 * k), 7 - k)? << (8 * k) << 8 } else { 0 };
     Ok((Kind::T, 0xff << k, data | 0xfd << (8 * k) | codes))
 }
 
@@ -362,13 +386,15 @@ const fn at_once() -> [u8; 1024] {
     table
 }
 
-/// The receive diagram's next state, by state and kind, with every Terminate accepted.
-static NEXT: [[State; 6]; 5] = [
-    [State::E, State::C, State::D, State::E, State::E, State::Init],
-    [State::E, State::C, State::D, State::E, State::E, State::Init],
-    [State::D, State::E, State::E, State::T, State::E, State::Init],
-    [State::E, State::C, State::D, State::E, State::E, State::Init],
-    [State::D, State::C, State::E, State::T, State::E, State::Init],
+/// The receive diagram's next state, by state and kind, with every Terminate accepted. The last column is of no kind: with eight of them a
+/// row is found by a shift.
+static NEXT: [[State; 8]; 6] = [
+    [State::E, State::C, State::D, State::E, State::E, State::E, State::Init, State::Init],
+    [State::E, State::C, State::D, State::E, State::E, State::LI, State::Init, State::Init],
+    [State::D, State::E, State::E, State::T, State::E, State::E, State::Init, State::Init],
+    [State::E, State::C, State::D, State::E, State::E, State::LI, State::Init, State::Init],
+    [State::D, State::C, State::E, State::T, State::E, State::LI, State::Init, State::Init],
+    [State::E, State::C, State::E, State::E, State::E, State::LI, State::Init, State::Init],
 ];
 
 #[derive(Default)]
@@ -419,7 +445,7 @@ impl Receiver {
 
     /// Tests a block; true where it slips.
     #[inline(always)]
-    fn test(&mut self, header: u64, payload: u64) -> (Tested, bool) {
+    fn test(&mut self, tables: &Tables, header: u64, payload: u64) -> (Tested, bool) {
         let invalid = (header ^ (header >> 1)) & 1 == 0;
         let was_locked = self.locked;
         let slips = self.lock(invalid);
@@ -427,11 +453,12 @@ impl Receiver {
         let last = std::mem::replace(&mut self.last, payload);
         let plain = payload ^ (payload << 39 | last >> 25) ^ (payload << 58 | last >> 6);
         let (kind, flags, octets) = match (header, plain) {
-            _ if !self.locked || self.high => self.down(header, plain),
+            _ if !self.locked || self.high => self.down(tables, header, plain),
             _ if invalid => self.bad(Fault::Header),
             (DATA, _) => (Kind::D, 0, plain),
             (_, IDLE_PAYLOAD) => (Kind::C, 0xff, IDLES),
-            _ => decode(plain).unwrap_or_else(|fault| self.bad(fault)),
+            (_, LOW_POWER_PAYLOAD) if tables.low_power => (Kind::LI, 0xff, LOW_POWER),
+            _ => decode(tables, plain).unwrap_or_else(|fault| self.bad(fault)),
         };
         (Tested { kind, flags, octets }, slips)
     }
@@ -445,11 +472,11 @@ impl Receiver {
 
     /// Counts a block that is not answered. Its header and type may be noise, and a branch on them a guess: a table has no branch.
     #[inline(always)]
-    fn down(&mut self, header: u64, plain: u64) -> (Kind, u8, u64) {
+    fn down(&mut self, tables: &Tables, header: u64, plain: u64) -> (Kind, u8, u64) {
         let at_once = AT_ONCE[(header << 8 | plain & 255) as usize];
         if at_once != CODES {
             self.faults[at_once as usize] += 1;
-        } else if let Err(fault) = decode(plain) {
+        } else if let Err(fault) = decode(tables, plain) {
             self.faults[fault as usize] += 1;
         }
         (Kind::Down, 0, 0)
@@ -473,10 +500,10 @@ struct Answers {
 }
 
 impl Answers {
-    /// Only Terminate waits for the next block: it is answered at once, and taken back where one comes that is neither S nor C.
+    /// Only Terminate waits for the next block: it is answered at once, and taken back where one comes that is neither S nor C nor LI.
     #[inline(always)]
     fn judge_terminate(&mut self, next: Kind, out: &mut [u8], tested: usize) {
-        if self.state == State::T && !matches!(next, Kind::S | Kind::C) {
+        if self.state == State::T && !matches!(next, Kind::S | Kind::C | Kind::LI) {
             self.state = State::E;
             self.replaced += 1;
             put_vector(out, tested - 1, 0xff, ERRORS);
@@ -525,7 +552,10 @@ fn payload_at(line: &[u8], at: usize) -> u64 {
 }
 
 #[inline(never)]
-pub fn receive(line: &[u8], vectors: &mut [u8], summary: &mut [u8], counters: &mut [u8]) -> u64 {
+pub fn receive(edition: u64, line: &[u8], vectors: &mut [u8], summary: &mut [u8], counters: &mut [u8]) -> u64 {
+    let Some(tables) = tables_of(edition) else {
+        return refuse(summary, 12, 13, 0);
+    };
     if line.len() > 825_000 {
         return refuse(summary, 12, 1, 0);
     }
@@ -539,7 +569,7 @@ pub fn receive(line: &[u8], vectors: &mut [u8], summary: &mut [u8], counters: &m
     let mut answers = Answers { state: State::Init, begun: 0, replaced: 0 };
     let (mut tested, mut slips, mut at) = (0, 0, 0);
     while at + 66 <= bits {
-        let (now, slipped) = receiver.test(header_at(line, at), payload_at(line, at + 2));
+        let (now, slipped) = receiver.test(tables, header_at(line, at), payload_at(line, at + 2));
         answers.answer(&now, vectors, tested);
         tested += 1;
         slips += slipped as u64;

@@ -5,8 +5,10 @@ mod fast;
 mod traffic;
 
 use compare::library;
+use compare::reference::edition::{Edition, EDITIONS};
 use std::hint::black_box;
 use std::time::Instant;
+use traffic::Traffic;
 
 const CALLS: usize = 200;
 
@@ -34,7 +36,7 @@ struct Lent {
 
 /// One row of the table: a direction and a line, and how many blocks that is.
 struct Row<'a> {
-    direction: &'a str,
+    direction: String,
     line: &'a str,
     blocks: u64,
 }
@@ -71,27 +73,43 @@ impl Row<'_> {
     }
 }
 
+/// A direction in words. The old edition is not named.
+fn direction(word: &str, edition: Edition) -> String {
+    match edition {
+        Edition::Old => word.to_string(),
+        Edition::New => format!("{word}, new edition"),
+    }
+}
+
+fn time_sending(edition: Edition, t: &Traffic) {
+    let number = edition as u64;
+    let row = Row { direction: direction("send", edition), line: t.name, blocks: t.vectors.len() as u64 / 10 };
+    row.time(
+        t.vectors.len() / 40 * 33,
+        |lent| library::send(number, &t.vectors, 0, &mut lent.out, &mut lent.summary),
+        |lent| fast::send(number, &t.vectors, 0, &mut lent.out, &mut lent.summary),
+    );
+}
+
+fn time_receiving(edition: Edition, t: &Traffic) {
+    let number = edition as u64;
+    let line = t.line.clone().unwrap_or_else(|| library::sent(edition, &t.vectors, 0).0);
+    let (_, summary) = library::received(edition, &line);
+    let row = Row { direction: direction("receive", edition), line: t.name, blocks: library::word(&summary, 0) };
+    row.time(
+        8 * line.len() / 66 * 10,
+        |lent| library::receive(number, &line, &mut lent.out, &mut lent.summary, &mut lent.counters),
+        |lent| fast::receive(number, &line, &mut lent.out, &mut lent.summary, &mut lent.counters),
+    );
+}
+
 fn main() {
     agree::check();
     println!("| | line | library, ns a block | Gbit/s | hand-written, ns a block | Gbit/s | ratio |");
     println!("|---|---|---|---|---|---|---|");
-    let all = traffic::all();
-    for t in &all {
-        let row = Row { direction: "send", line: t.name, blocks: t.vectors.len() as u64 / 10 };
-        row.time(
-            t.vectors.len() / 40 * 33,
-            |lent| library::send(&t.vectors, 0, &mut lent.out, &mut lent.summary),
-            |lent| fast::send(&t.vectors, 0, &mut lent.out, &mut lent.summary),
-        );
-    }
-    for t in &all {
-        let line = t.line.clone().unwrap_or_else(|| library::sent(&t.vectors, 0).0);
-        let (_, summary) = library::received(&line);
-        let row = Row { direction: "receive", line: t.name, blocks: library::word(&summary, 0) };
-        row.time(
-            8 * line.len() / 66 * 10,
-            |lent| library::receive(&line, &mut lent.out, &mut lent.summary, &mut lent.counters),
-            |lent| fast::receive(&line, &mut lent.out, &mut lent.summary, &mut lent.counters),
-        );
+    for edition in EDITIONS {
+        let all = traffic::all(edition);
+        all.iter().for_each(|t| time_sending(edition, t));
+        all.iter().for_each(|t| time_receiving(edition, t));
     }
 }

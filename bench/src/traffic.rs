@@ -1,6 +1,7 @@
-//! The four lines that are timed, 100,000 blocks each.
+//! The lines that are timed, 100,000 blocks each.
 use compare::lists;
 use compare::random::Random;
+use compare::reference::edition::Edition;
 
 const BLOCKS: usize = 100_000;
 const IDLE: (bool, u8) = (true, 0x07);
@@ -13,16 +14,26 @@ pub struct Traffic {
     pub line: Option<Vec<u8>>,
 }
 
-pub fn all() -> Vec<Traffic> {
+/// Four lines for each edition, and one of low power idle for the new one.
+pub fn all(edition: Edition) -> Vec<Traffic> {
     let mut random = Random::new(1);
     let noise = (0..BLOCKS).flat_map(|_| lists::any(&mut random)).collect();
     let noisy_line = random.bytes(BLOCKS / 4 * 33);
-    vec![
+    let mut all = vec![
         Traffic { name: "all idle", vectors: lists::idle().repeat(BLOCKS), line: None },
         Traffic { name: "1,500-octet frames", vectors: frames(|_| 1_500), line: None },
         Traffic { name: "64-octet frames", vectors: frames(|n| 64 + n % 8), line: None },
         Traffic { name: "noise", vectors: noise, line: Some(noisy_line) },
-    ]
+    ];
+    if edition == Edition::New {
+        all.push(Traffic { name: "low power idle", vectors: low_power(), line: None });
+    }
+    all
+}
+
+/// 64 vectors of idles, then low power idle.
+fn low_power() -> Vec<u8> {
+    [lists::idle().repeat(64), lists::low_power().repeat(BLOCKS - 64)].concat()
 }
 
 /// 64 vectors of idles, then frames back to back: Start and preamble, octets, Terminate and eleven idles, then idles up to a word.

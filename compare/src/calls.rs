@@ -3,6 +3,8 @@
 use crate::library;
 use crate::random::Random;
 use crate::reference::counters::{COUNTERS_BYTES, FIELDS};
+use crate::reference::diagrams::State;
+use crate::reference::edition::{Edition, EDITIONS};
 use crate::reference::{receiving, sending, Refusal};
 
 /// Bytes before and behind a lent slice that nobody may touch. Odd, so that slices stand at odd addresses too.
@@ -49,6 +51,8 @@ pub struct Tally {
     pub alone: u64,
     pub begun: u64,
     pub replaced: u64,
+    /// Vectors of low power idle that were answered as decoded.
+    pub low_power: u64,
     /// Fields of the counters that a call left at the top.
     pub full: u64,
     pub refusals: u64,
@@ -64,6 +68,7 @@ impl Tally {
         self.alone += other.alone;
         self.begun += other.begun;
         self.replaced += other.replaced;
+        self.low_power += other.low_power;
         self.full += other.full;
         self.refusals += other.refusals;
     }
@@ -73,8 +78,9 @@ impl Tally {
     }
 }
 
-/// Makes calls and counts them. A difference is an `Err` that says what differed.
+/// Makes calls in an edition and counts them. A difference is an `Err` that says what differed.
 pub struct Calls {
+    pub edition: Edition,
     pub random: Random,
     pub tally: Tally,
 }
@@ -82,63 +88,67 @@ pub struct Calls {
 pub type Outcome = Result<(), String>;
 
 impl Calls {
-    pub fn new(seed: u64) -> Calls {
-        Calls { random: Random::new(seed), tally: Tally::default() }
+    pub fn new(edition: Edition, seed: u64) -> Calls {
+        Calls { edition, random: Random::new(seed), tally: Tally::default() }
     }
 
     /// Sends with exactly the room that is asked for.
     pub fn send(&mut self, vectors: &[u8], start: u64) -> Outcome {
-        self.send_into(vectors, start, vectors.len() / 40 * 33, sending::SUMMARY_BYTES)
+        self.send_into(self.edition as u64, vectors, start, vectors.len() / 40 * 33, sending::SUMMARY_BYTES)
     }
 
     /// Receives with exactly the room that is asked for.
     pub fn receive(&mut self, line: &[u8]) -> Outcome {
         let old = self.random.counters(COUNTERS_BYTES);
-        self.receive_into(line, 8 * line.len() / 66 * 10, receiving::SUMMARY_BYTES, &old)
+        self.receive_into(self.edition as u64, line, 8 * line.len() / 66 * 10, receiving::SUMMARY_BYTES, &old)
     }
 
     /// Sends a list, and receives what the second program sends of it.
     pub fn both_ways(&mut self, vectors: &[u8], start: u64) -> Outcome {
         self.send(vectors, start)?;
-        let sent = sending::send(vectors, start, usize::MAX, usize::MAX).ok().unwrap();
+        let sent = sending::send(self.edition as u64, vectors, start, usize::MAX, usize::MAX).ok().unwrap();
         self.receive(&sent.line)
     }
 
-    pub fn send_into(&mut self, vectors: &[u8], start: u64, room: usize, summary_room: usize) -> Outcome {
+    /// In any edition, an unknown one too.
+    pub fn send_into(&mut self, edition: u64, vectors: &[u8], start: u64, room: usize, summary_room: usize) -> Outcome {
         let mut input = Lent::new(vectors, &mut self.random);
         let mut line = Lent::new(&vec![0xa5; room], &mut self.random);
         let mut summary = Lent::new(&vec![0x5a; summary_room], &mut self.random);
-        let answer = sending::send(vectors, start, room, summary_room);
+        let answer = sending::send(edition, vectors, start, room, summary_room);
         let (result, output, words) = match &answer {
             Ok(sent) => (0, sent.line.clone(), sent.summary()),
             Err(refusal) => self.refusal(*refusal, sending::SUMMARY_BYTES, summary_room),
         };
         let expected = [input.bytes.clone(), line.with(&output), summary.with(&words)];
-        let got = library::send(input.slice(), start, line.slice(), summary.slice());
+        let got = library::send(edition, input.slice(), start, line.slice(), summary.slice());
         self.tally.sends += 1;
         self.tally.sent += output.len() as u64 / 33 * 4;
         same(
-            &format!("sending {} bytes from state {start:#x}, room {room}, summary {summary_room}", vectors.len()),
+            &format!(
+                "sending {} bytes in edition {edition} from state {start:#x}, room {room}, summary {summary_room}",
+                vectors.len()
+            ),
             ["vectors", "line", "summary"],
             (result, &expected),
             (got, &[input, line, summary]),
         )
     }
 
-    /// `old` is the content of the lent counters.
-    pub fn receive_into(&mut self, line: &[u8], room: usize, summary_room: usize, old: &[u8]) -> Outcome {
+    /// In any edition, an unknown one too. `old` is the content of the lent counters.
+    pub fn receive_into(&mut self, edition: u64, line: &[u8], room: usize, summary_room: usize, old: &[u8]) -> Outcome {
         let mut input = Lent::new(line, &mut self.random);
         let mut vectors = Lent::new(&vec![0xa5; room], &mut self.random);
         let mut summary = Lent::new(&vec![0x5a; summary_room], &mut self.random);
         let mut counters = Lent::new(old, &mut self.random);
         let mut total = old.to_vec();
-        let answer = receiving::receive(line, room, summary_room, &mut total);
+        let answer = receiving::receive(edition, line, room, summary_room, &mut total);
         let (result, output, words) = match &answer {
             Ok(received) => (0, received.vectors.clone(), received.summary()),
             Err(refusal) => self.refusal(*refusal, receiving::SUMMARY_BYTES, summary_room),
         };
         let expected = [input.bytes.clone(), vectors.with(&output), summary.with(&words), counters.with(&total)];
-        let got = library::receive(input.slice(), vectors.slice(), summary.slice(), counters.slice());
+        let got = library::receive(edition, input.slice(), vectors.slice(), summary.slice(), counters.slice());
         self.tally.receives += 1;
         self.tally.received += output.len() as u64 / 10;
         if let Ok(received) = answer {
@@ -146,11 +156,15 @@ impl Calls {
             self.tally.alone += received.alone() as u64;
             self.tally.begun += received.begun();
             self.tally.replaced += received.replaced();
+            self.tally.low_power += received.states.iter().filter(|state| **state == State::LI).count() as u64;
             self.tally.full += total.chunks(4).take(FIELDS).filter(|field| *field == [0xff; 4]).count() as u64;
         }
         let counters_room = old.len();
         same(
-            &format!("receiving {} bytes, room {room}, summary {summary_room}, counters {counters_room}", line.len()),
+            &format!(
+                "receiving {} bytes in edition {edition}, room {room}, summary {summary_room}, counters {counters_room}",
+                line.len()
+            ),
             ["line", "vectors", "summary", "counters"],
             (result, &expected),
             (got, &[input, vectors, summary, counters]),
@@ -165,11 +179,26 @@ impl Calls {
     }
 }
 
-/// The vectors and the words of the summary of a line, on which the library and the second program agree.
-pub fn agreed(line: &[u8]) -> (Vec<u8>, [u64; library::RECEIVE_WORDS]) {
-    Calls::new(1).receive(line).unwrap();
-    let (vectors, summary) = library::received(line);
+/// The vectors and the words of a line's summary.
+pub type Answer = (Vec<u8>, [u64; library::RECEIVE_WORDS]);
+
+/// What the library and the second program both say of a line.
+pub fn agreed(edition: Edition, line: &[u8]) -> Answer {
+    Calls::new(edition, 1).receive(line).unwrap();
+    let (vectors, summary) = library::received(edition, line);
     (vectors, library::words(&summary))
+}
+
+/// The same of a line of which both editions say it.
+pub fn agreed_in_both(line: &[u8]) -> Answer {
+    in_both(|edition| agreed(edition, line))
+}
+
+/// What one edition says as well as the other.
+pub fn in_both<A: PartialEq + std::fmt::Debug>(say: impl FnMut(Edition) -> A) -> A {
+    let [old, new] = EDITIONS.map(say);
+    assert_eq!(old, new, "the editions differ");
+    old
 }
 
 /// Compares result and slices, guards included.

@@ -1,4 +1,4 @@
-//! The groups of comparisons. Each is given calls to make, and random numbers with them; the first difference ends it.
+//! The groups of comparisons. Each is given an edition to make calls in, and random numbers with it; the first difference ends it.
 mod blocks;
 mod damage;
 mod faults;
@@ -20,11 +20,15 @@ pub const GROUPS: [Group; 13] = [
     Group { name: "faults", says: "bad blocks one at a time: not locked, in lock, high", run: faults::faults },
     Group { name: "lists", says: "legal and illegal lists from random start states", run: lists::short },
     Group { name: "long lists", says: "lists of up to 100,000 vectors", run: lists::long },
-    Group { name: "flips", says: "lines with 0 to 3 flipped bits", run: damage::flips },
+    Group { name: "flips", says: "lines of either edition with 0 to 3 flipped bits", run: damage::flips },
     Group { name: "noise", says: "bursts of noise, and nothing but noise", run: damage::noise },
     Group { name: "slips", says: "lines at each of the 66 positions, bits lost and added", run: damage::slips },
     Group { name: "lock", says: "invalid headers at rates that lose lock", run: damage::lock },
     Group { name: "rate", says: "invalid headers at rates that reach high, window ends", run: damage::rate },
     Group { name: "truncated", says: "lines cut at any byte", run: damage::truncated },
-    Group { name: "refusals", says: "every refusal, all slices short, exact and long", run: refusals::refusals },
+    Group {
+        name: "refusals",
+        says: "every refusal, unknown editions, all slices short, exact and long",
+        run: refusals::refusals,
+    },
 ];

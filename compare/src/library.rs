@@ -1,7 +1,9 @@
 //! The library, through its C boundary: the declarations of include/holzmotte.h and safe functions over them.
+use crate::reference::edition::Edition;
 
 extern "C" {
     fn holzmotte_send(
+        edition: u64,
         vectors: *const u8,
         vectors_len: usize,
         start_state: u64,
@@ -11,6 +13,7 @@ extern "C" {
         summary_len: usize,
     ) -> u64;
     fn holzmotte_receive(
+        edition: u64,
         line: *const u8,
         line_len: usize,
         vectors: *mut u8,
@@ -23,10 +26,11 @@ extern "C" {
 }
 
 /// Sends a list: 0, or refusal number + 256 x place.
-pub fn send(vectors: &[u8], start_state: u64, line: &mut [u8], summary: &mut [u8]) -> u64 {
+pub fn send(edition: u64, vectors: &[u8], start_state: u64, line: &mut [u8], summary: &mut [u8]) -> u64 {
     // Safety: a Rust slice is what the header asks of one, and no two of these overlap.
     unsafe {
         holzmotte_send(
+            edition,
             vectors.as_ptr(),
             vectors.len(),
             start_state,
@@ -39,10 +43,11 @@ pub fn send(vectors: &[u8], start_state: u64, line: &mut [u8], summary: &mut [u8
 }
 
 /// Receives a line: 0, or refusal number + 256 x place.
-pub fn receive(line: &[u8], vectors: &mut [u8], summary: &mut [u8], counters: &mut [u8]) -> u64 {
+pub fn receive(edition: u64, line: &[u8], vectors: &mut [u8], summary: &mut [u8], counters: &mut [u8]) -> u64 {
     // Safety: as above.
     unsafe {
         holzmotte_receive(
+            edition,
             line.as_ptr(),
             line.len(),
             vectors.as_mut_ptr(),
@@ -71,18 +76,18 @@ pub fn words(summary: &[u8; RECEIVE_SUMMARY_BYTES]) -> [u64; RECEIVE_WORDS] {
 }
 
 /// The line and the summary of a list that sending accepts.
-pub fn sent(vectors: &[u8], start_state: u64) -> (Vec<u8>, [u8; 24]) {
+pub fn sent(edition: Edition, vectors: &[u8], start_state: u64) -> (Vec<u8>, [u8; 24]) {
     let mut line = vec![0; vectors.len() / 40 * 33];
     let mut summary = [0; 24];
-    assert_eq!(send(vectors, start_state, &mut line, &mut summary), 0);
+    assert_eq!(send(edition as u64, vectors, start_state, &mut line, &mut summary), 0);
     (line, summary)
 }
 
 /// The vectors and the summary of a line that receiving accepts.
-pub fn received(line: &[u8]) -> (Vec<u8>, [u8; RECEIVE_SUMMARY_BYTES]) {
+pub fn received(edition: Edition, line: &[u8]) -> (Vec<u8>, [u8; RECEIVE_SUMMARY_BYTES]) {
     let mut vectors = vec![0; 8 * line.len() / 66 * 10];
     let mut summary = [0; RECEIVE_SUMMARY_BYTES];
-    assert_eq!(receive(line, &mut vectors, &mut summary, &mut [0; COUNTERS_BYTES]), 0);
+    assert_eq!(receive(edition as u64, line, &mut vectors, &mut summary, &mut [0; COUNTERS_BYTES]), 0);
     vectors.truncate(10 * word(&summary, 4) as usize);
     (vectors, summary)
 }

@@ -1,10 +1,12 @@
 //! Lines for receiving, as bits: made of blocks, and damaged.
 use crate::lists;
 use crate::random::Random;
-use crate::reference::block::{encode, Block, CONTROL, DATA};
+use crate::reference::block::{encode, kinds, Block, Kind, CONTROL, DATA};
 use crate::reference::diagrams::State;
+use crate::reference::edition::Edition;
 use crate::reference::scrambler::Scrambler;
 use crate::reference::sending::{bytes, next_block};
+use crate::reference::vector::Vector;
 
 pub struct Line {
     pub bits: Vec<bool>,
@@ -23,8 +25,8 @@ impl Line {
     }
 
     /// The line of a list that a sender accepts.
-    pub fn of_list(vectors: &[u8], start: u64) -> Line {
-        Line::of_blocks(&blocks_of(vectors), start)
+    pub fn of_list(edition: Edition, vectors: &[u8], start: u64) -> Line {
+        Line::of_blocks(&blocks_of(edition, vectors), start)
     }
 
     pub fn bytes(&self) -> Vec<u8> {
@@ -66,32 +68,47 @@ impl Line {
     }
 }
 
+/// Flips bits of a line that is bytes.
+pub fn flip(line: &mut [u8], bits: &[usize]) {
+    bits.iter().for_each(|bit| line[bit / 8] ^= 1 << (bit % 8));
+}
+
 /// The blocks that a sender sends, before scrambling.
-pub fn blocks_of(vectors: &[u8]) -> Vec<Block> {
+pub fn blocks_of(edition: Edition, vectors: &[u8]) -> Vec<Block> {
     let mut diagram = State::Init;
     vectors
         .chunks(10)
         .map(|vector| {
             let block;
-            (diagram, block) = next_block(diagram, vector.try_into().unwrap());
+            (diagram, block) = next_block(edition, diagram, vector.try_into().unwrap());
             block
         })
         .collect()
 }
 
+/// The block of a vector that the new edition carries. Where the old one carries it too, it is by the same block.
+pub fn carrying(vector: &Vector) -> Block {
+    encode(Edition::New, vector).unwrap()
+}
+
 /// A block of eight idles.
 pub fn idle() -> Block {
-    encode(&lists::idle()).unwrap()
+    carrying(&lists::idle())
+}
+
+/// A block of eight low power idles.
+pub fn low_power() -> Block {
+    carrying(&lists::low_power())
 }
 
 /// A block of a Start and seven data octets.
 pub fn start() -> Block {
-    encode(&lists::start()).unwrap()
+    carrying(&lists::start())
 }
 
 /// A block of a Terminate and seven idles.
 pub fn end() -> Block {
-    encode(&lists::end()).unwrap()
+    carrying(&lists::end())
 }
 
 /// A block with an invalid header.
@@ -119,14 +136,22 @@ pub fn control(random: &mut Random) -> Block {
     block(CONTROL, random.word())
 }
 
+/// A block of any kind; of kind E it is any control block.
+pub fn of_any_kind(edition: Edition, random: &mut Random) -> Block {
+    match random.pick(kinds(edition)) {
+        Kind::E => control(random),
+        kind => carrying(&lists::of_kind(edition, kind, random)),
+    }
+}
+
 /// A line that is damaged in many ways, cut at a wrong place, or nothing but noise.
-pub fn damaged(random: &mut Random) -> Vec<u8> {
+pub fn damaged(edition: Edition, random: &mut Random) -> Vec<u8> {
     if random.once_in(4) {
         let bytes = random.below(1_000);
         return random.bytes(bytes);
     }
-    let vectors = lists::list_after_lock(64 + random.below(100), 50, random);
-    let mut line = Line::of_list(&vectors, random.start_state());
+    let vectors = lists::list_after_lock(edition, 64 + random.below(100), 50, random);
+    let mut line = Line::of_list(edition, &vectors, random.start_state());
     line.flip_some(random.below(20), 0, random);
     let from = random.below(line.bits.len() - 200);
     match random.below(3) {

@@ -1,15 +1,19 @@
 //! Random vectors and lists of them.
 use crate::random::Random;
-use crate::reference::block::{kind_of_vector, Format, Kind, CODES, FORMATS, O_CODES, START, TERMINATE};
+use crate::reference::block::{codes, kind_of_vector, kinds, Format, Kind, FORMATS, O_CODES, START, TERMINATE};
 use crate::reference::diagrams::{transmit, State};
+use crate::reference::edition::Edition;
 use crate::reference::vector::{vector, Character, Vector, ERROR};
 use Character::{Control, Data};
-
-const KINDS: [Kind; 5] = [Kind::D, Kind::C, Kind::S, Kind::T, Kind::E];
 
 /// Eight idles.
 pub fn idle() -> Vector {
     vector(&[Control(0x07); 8])
+}
+
+/// Eight low power idles.
+pub fn low_power() -> Vector {
+    vector(&[Control(0x06); 8])
 }
 
 /// A Start and seven data octets.
@@ -22,12 +26,12 @@ pub fn end() -> Vector {
     vector(&std::array::from_fn(|i| Control(if i == 0 { TERMINATE } else { 0x07 })))
 }
 
-/// A character that fits a letter of the block formats; control characters are mostly idles.
-fn character(letter: char, random: &mut Random) -> Character {
+/// A character that fits a letter of the block formats; control characters are mostly this one.
+fn character(edition: Edition, letter: char, mostly: u8, random: &mut Random) -> Character {
     match letter {
         'D' => Data(random.byte()),
-        'C' if random.once_in(4) => Control(random.pick(&CODES).0),
-        'C' => Control(0x07),
+        'C' if random.once_in(4) => Control(random.pick(codes(edition)).0),
+        'C' => Control(mostly),
         'O' => Control(random.pick(&O_CODES).0),
         'S' => Control(START),
         'T' => Control(TERMINATE),
@@ -35,9 +39,16 @@ fn character(letter: char, random: &mut Random) -> Character {
     }
 }
 
-/// A vector that a format carries.
-pub fn of_format(format: &Format, random: &mut Random) -> Vector {
-    vector(&std::array::from_fn(|i| character(format.characters[i].0, random)))
+/// A vector that a format carries. Its control characters are mostly idles; in the new edition they are low power idles at times.
+pub fn of_format(edition: Edition, format: &Format, random: &mut Random) -> Vector {
+    let low_power = edition == Edition::New && random.once_in(4);
+    let mostly = if low_power { 0x06 } else { 0x07 };
+    vector(&std::array::from_fn(|i| character(edition, format.characters[i].0, mostly, random)))
+}
+
+/// A vector that some format carries.
+fn of_some_format(edition: Edition, random: &mut Random) -> Vector {
+    of_format(edition, &FORMATS[random.below(FORMATS.len())], random)
 }
 
 /// Eight data octets.
@@ -56,8 +67,8 @@ pub fn any(random: &mut Random) -> Vector {
 }
 
 /// A vector that few bits keep from being a good one: one character of a good vector changed.
-pub fn spoilt(random: &mut Random) -> Vector {
-    let mut vector = of_format(&FORMATS[random.below(FORMATS.len())], random);
+pub fn spoilt(edition: Edition, random: &mut Random) -> Vector {
+    let mut vector = of_some_format(edition, random);
     let (word, lane) = (5 * random.below(2), random.below(4));
     match random.below(3) {
         0 => vector[word] ^= 1 << lane,
@@ -67,24 +78,28 @@ pub fn spoilt(random: &mut Random) -> Vector {
     vector
 }
 
-fn bad(random: &mut Random) -> Vector {
-    match random.below(4) {
+/// Mostly a bad vector; bad in the old edition alone are those that the new one carries.
+fn bad(edition: Edition, random: &mut Random) -> Vector {
+    match random.below(6) {
         0 => ERROR,
         1 => any(random),
-        _ => spoilt(random),
+        2 => low_power(),
+        3 => of_some_format(Edition::New, random),
+        _ => spoilt(edition, random),
     }
 }
 
-/// A vector of a kind.
-pub fn of_kind(kind: Kind, random: &mut Random) -> Vector {
+/// A vector of a kind that the edition has.
+pub fn of_kind(edition: Edition, kind: Kind, random: &mut Random) -> Vector {
     loop {
         let vector = match kind {
             Kind::D => data(random),
-            Kind::E => bad(random),
+            Kind::E => bad(edition, random),
+            Kind::LI => low_power(),
             Kind::C if random.once_in(2) => idle(),
-            _ => of_format(&FORMATS[random.below(FORMATS.len())], random),
+            _ => of_some_format(edition, random),
         };
-        if kind_of_vector(&vector) == kind {
+        if kind_of_vector(edition, &vector) == kind {
             return vector;
         }
     }
@@ -92,13 +107,14 @@ pub fn of_kind(kind: Kind, random: &mut Random) -> Vector {
 
 /// Kinds that the transmit diagram takes with no error, `strays` in a thousand of them any kind at all.
 pub struct Walk {
+    edition: Edition,
     state: State,
     strays: usize,
 }
 
 impl Walk {
-    pub fn new(strays: usize) -> Walk {
-        Walk { state: State::Init, strays }
+    pub fn new(edition: Edition, strays: usize) -> Walk {
+        Walk { edition, state: State::Init, strays }
     }
 
     pub fn next(&mut self, random: &mut Random) -> Kind {
@@ -107,7 +123,7 @@ impl Walk {
             let kind = match random.below(8) {
                 0..=2 => Kind::D,
                 3..=4 => Kind::C,
-                _ => random.pick(&KINDS),
+                _ => random.pick(kinds(self.edition)),
             };
             let state = transmit(self.state, kind);
             if stray || state != State::E {
@@ -119,14 +135,14 @@ impl Walk {
 }
 
 /// A list of `n` vectors; a legal one where `strays` is 0.
-pub fn list(n: usize, strays: usize, random: &mut Random) -> Vec<u8> {
-    let mut walk = Walk::new(strays);
-    (0..n).flat_map(|_| of_kind(walk.next(random), random)).collect()
+pub fn list(edition: Edition, n: usize, strays: usize, random: &mut Random) -> Vec<u8> {
+    let mut walk = Walk::new(edition, strays);
+    (0..n).flat_map(|_| of_kind(edition, walk.next(random), random)).collect()
 }
 
 /// A list of `n` vectors whose first 64 are control vectors.
-pub fn list_after_lock(n: usize, strays: usize, random: &mut Random) -> Vec<u8> {
-    let mut vectors: Vec<u8> = (0..64.min(n)).flat_map(|_| of_kind(Kind::C, random)).collect();
-    vectors.extend(list(n - 64.min(n), strays, random));
+pub fn list_after_lock(edition: Edition, n: usize, strays: usize, random: &mut Random) -> Vec<u8> {
+    let mut vectors: Vec<u8> = (0..64.min(n)).flat_map(|_| of_kind(edition, Kind::C, random)).collect();
+    vectors.extend(list(edition, n - 64.min(n), strays, random));
     vectors
 }

@@ -3,6 +3,7 @@
 pub mod block;
 pub mod counters;
 pub mod diagrams;
+pub mod edition;
 pub mod fault;
 pub mod receiving;
 pub mod scrambler;

@@ -1,20 +1,27 @@
 //! Request 3/13: frames begun, vectors replaced, and a record of counters that each call updates in place, held to numbers that stand
-//! here.
-use compare::calls::{agreed, Calls};
+//! here, in both editions.
+use compare::calls::{agreed, agreed_in_both, in_both, Calls};
 use compare::library::{self, COUNTERS_BYTES, RECEIVE_SUMMARY_BYTES};
 use compare::lines::{block, damaged, end, idle, invalid, start, until_high, Line};
 use compare::lists;
 use compare::random::Random;
 use compare::reference::block::{kind_of_vector, Block, Kind, CONTROL, DATA};
 use compare::reference::counters::Counters;
+use compare::reference::edition::{Edition, EDITIONS};
 use compare::reference::vector::{Vector, ERROR};
 
 const TOP: u32 = 4_294_967_295;
 
-/// Receives onto lent counters, as the library and the second program agree on it: the result.
+/// Receives onto lent counters, as the library and the second program agree on it in both editions: the result.
 fn receive(line: &[u8], room: usize, summary_room: usize, counters: &mut [u8]) -> u64 {
-    Calls::new(1).receive_into(line, room, summary_room, counters).unwrap();
-    library::receive(line, &mut vec![0; room], &mut vec![0; summary_room], counters)
+    let (result, then) = in_both(|edition| {
+        let number = edition as u64;
+        Calls::new(edition, 1).receive_into(number, line, room, summary_room, counters).unwrap();
+        let mut lent = counters.to_vec();
+        (library::receive(number, line, &mut vec![0; room], &mut vec![0; summary_room], &mut lent), lent)
+    });
+    counters.copy_from_slice(&then);
+    result
 }
 
 /// What counters with these numbers are after a line.
@@ -51,7 +58,7 @@ const ALL: [u32; 8] = [99, 2, 3, 4, 5, 6, 7, 17];
 #[test]
 fn each_field_counts_its_own() {
     assert_eq!(after(&of_all(), [0; 8]), ALL);
-    let (_, words) = agreed(&of_all());
+    let (_, words) = agreed_in_both(&of_all());
     let counted = [&words[..2], &words[5..9], &words[10..]].concat();
     assert_eq!(counted, ALL.map(u64::from));
 }
@@ -163,15 +170,18 @@ fn a_refused_call_changes_no_byte() {
 #[test]
 fn short_counters_leave_zeros_in_the_summary() {
     for counters_room in 0..32 {
-        let mut summary = [7; RECEIVE_SUMMARY_BYTES + 1];
-        assert_eq!(library::receive(&[0; 9], &mut [0; 10], &mut summary, &mut vec![0; counters_room]), 4);
+        let (result, summary) = in_both(|edition| {
+            let (mut summary, mut counters) = ([7; RECEIVE_SUMMARY_BYTES + 1], vec![0; counters_room]);
+            (library::receive(edition as u64, &[0; 9], &mut [0; 10], &mut summary, &mut counters), summary)
+        });
+        assert_eq!(result, 4);
         assert_eq!(summary, std::array::from_fn(|i| if i < RECEIVE_SUMMARY_BYTES { 0 } else { 7 }));
     }
 }
 
 /// Begun and replaced of a line of these blocks.
 fn counts(blocks: &[Block]) -> [u64; 2] {
-    let (_, words) = agreed(&Line::of_blocks(blocks, 0).bytes());
+    let (_, words) = agreed_in_both(&Line::of_blocks(blocks, 0).bytes());
     [words[10], words[11]]
 }
 
@@ -246,10 +256,10 @@ fn a_terminate_is_replaced_where_the_block_after_it_does_not_let_it_end() {
 }
 
 /// How many of these vectors are of kind S, and how many the error vector.
-fn among(vectors: &[u8]) -> [u64; 2] {
+fn among(edition: Edition, vectors: &[u8]) -> [u64; 2] {
     let vectors: Vec<&Vector> = vectors.chunks(10).map(|vector| vector.try_into().unwrap()).collect();
-    let count = |is: fn(&Vector) -> bool| vectors.iter().filter(|vector| is(vector)).count() as u64;
-    [count(|vector| kind_of_vector(vector) == Kind::S), count(|vector| *vector == ERROR)]
+    let count = |is: &dyn Fn(&Vector) -> bool| vectors.iter().filter(|vector| is(vector)).count() as u64;
+    [count(&|vector| kind_of_vector(edition, vector) == Kind::S), count(&|vector| *vector == ERROR)]
 }
 
 #[test]
@@ -257,14 +267,15 @@ fn begun_and_replaced_are_the_starts_and_the_error_vectors_among_the_answers() {
     let mut random = Random::new(9);
     let mut all = [0; 2];
     for n in 0..4_000 {
+        let edition = random.pick(&EDITIONS);
         let line = if n % 2 == 0 {
-            damaged(&mut random)
+            damaged(edition, &mut random)
         } else {
-            let vectors = lists::list_after_lock(164, 200, &mut random);
-            Line::of_list(&vectors, random.start_state()).bytes()
+            let vectors = lists::list_after_lock(edition, 164, 200, &mut random);
+            Line::of_list(edition, &vectors, random.start_state()).bytes()
         };
-        let (vectors, words) = agreed(&line);
-        assert_eq!(words[10..], among(&vectors), "line {n}");
+        let (vectors, words) = agreed(edition, &line);
+        assert_eq!(words[10..], among(edition, &vectors), "line {n}");
         all = std::array::from_fn(|i| all[i] + words[10 + i]);
     }
     // neither case is empty

@@ -1,6 +1,9 @@
-//! Document 01's marked examples, of the second program: it is compared with the library, so it is held to the document here.
+//! Document 01's marked examples, of the second program: it is compared with the library, so it is held to the document here, in both
+//! editions.
+use compare::calls::in_both;
 use compare::lines::block;
 use compare::reference::block::{encode, kind, kind_of_vector, Kind, CONTROL};
+use compare::reference::edition::Edition;
 use compare::reference::scrambler::Scrambler;
 use compare::reference::sending::bytes;
 use compare::reference::vector::{vector, Character, Vector, LOCAL_FAULT};
@@ -8,14 +11,14 @@ use Character::{Control, Data};
 
 /// The payload bytes of the control block that carries a vector.
 fn payload(vector: &Vector) -> Vec<u8> {
-    let block = encode(vector).unwrap();
+    let block = in_both(|edition| encode(edition, vector).unwrap());
     assert_eq!(block.header, CONTROL);
     bytes(&block.payload)
 }
 
 /// The kind of a control block, of its payload as a number.
 fn control(payload: u64) -> Kind {
-    kind(&block(CONTROL, payload))
+    in_both(|edition| kind(edition, &block(CONTROL, payload)))
 }
 
 #[test]
@@ -81,7 +84,7 @@ fn j_ordered_set_with_an_error_code() {
 
 #[test]
 fn k_header_11() {
-    assert_eq!(kind(&block([true, true], 0x1e)), Kind::E);
+    assert_eq!(in_both(|edition| kind(edition, &block([true, true], 0x1e))), Kind::E);
 }
 
 #[test]
@@ -94,9 +97,9 @@ fn l_payload_1_scrambled() {
 
 /// "Every other control octet or code, 06 included, is an error."
 #[test]
-fn octet_06_is_an_error() {
+fn octet_06_is_an_error_in_the_old_edition() {
     let mut characters = [Control(0x07); 8];
     characters[3] = Control(0x06);
-    assert_eq!(kind_of_vector(&vector(&characters)), Kind::E);
-    assert_eq!(control(0x1e | 0x06 << 8), Kind::E);
+    assert_eq!(kind_of_vector(Edition::Old, &vector(&characters)), Kind::E);
+    assert_eq!(kind(Edition::Old, &block(CONTROL, 0x1e | 0x06 << 8)), Kind::E);
 }

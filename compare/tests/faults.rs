@@ -1,10 +1,11 @@
-//! Request 1/13: which blocks are counted as bad, and under which reason, held to numbers that stand here.
-use compare::calls::agreed;
+//! Request 1/13: which blocks are counted as bad, and under which reason, held to numbers that stand here, in both editions.
+use compare::calls::{agreed, in_both};
 use compare::library::{sent, word};
-use compare::lines::{block, damaged, data, idle, until_high, Line};
+use compare::lines::{block, carrying, damaged, data, idle, until_high, Line};
 use compare::lists;
 use compare::random::Random;
-use compare::reference::block::{encode, kind, Block, Kind, CONTROL, DATA};
+use compare::reference::block::{kind, Block, Kind, CONTROL, DATA};
+use compare::reference::edition::{Edition, EDITIONS};
 use compare::reference::receiving::receive;
 use compare::reference::vector::{vector, Character, ERROR, LOCAL_FAULT};
 use Character::{Control, Data};
@@ -16,9 +17,14 @@ const CONTROL_CODE: [u64; 4] = [0, 0, 1, 0];
 const SET_CODE: [u64; 4] = [0, 0, 0, 1];
 
 /// What receiving says of a line: the vectors; tested, slips, locked, high; header, type, control code and ordered set code faults.
-fn seen(line: &[u8]) -> (Vec<u8>, [u64; 4], [u64; 4]) {
-    let (vectors, words) = agreed(line);
+fn seen_in(edition: Edition, line: &[u8]) -> (Vec<u8>, [u64; 4], [u64; 4]) {
+    let (vectors, words) = agreed(edition, line);
     (vectors, words[..4].try_into().unwrap(), words[5..9].try_into().unwrap())
+}
+
+/// The same of a line of which both editions say it.
+fn seen(line: &[u8]) -> (Vec<u8>, [u64; 4], [u64; 4]) {
+    in_both(|edition| seen_in(edition, line))
 }
 
 /// The faults of a line of these blocks.
@@ -79,12 +85,12 @@ fn code_1e_is_a_control_code_fault_in_type_1e_alone() {
 #[test]
 fn an_error_block_that_was_sent_is_a_control_code_fault() {
     let mut list = lists::idle().repeat(65);
-    for replaced in [ERROR, vector(&[Control(0x06); 8]), lists::end()] {
+    for replaced in [ERROR, vector(&[Control(0x01); 8]), lists::end()] {
         list.extend(replaced);
         list.extend(lists::idle());
     }
     list.extend(lists::idle());
-    let (line, summary) = sent(&list, 0);
+    let (line, summary) = in_both(|edition| sent(edition, &list, 0));
     assert_eq!(word(&summary, 2), 3);
     let (vectors, summary, faults) = seen(&line);
     assert_eq!(vectors[650..660], ERROR);
@@ -99,7 +105,7 @@ fn a_good_block_out_of_turn_counts_under_no_reason() {
     let tried = [data, idle, start, start, end, idle, start, end, data, end, idle];
     let answers = [ERROR, idle, start, ERROR, end, idle, start, ERROR, data, end, idle];
     let all = [vec![idle; 64], tried.to_vec()].concat();
-    let blocks: Vec<Block> = all.iter().map(|vector| encode(vector).unwrap()).collect();
+    let blocks: Vec<Block> = all.iter().map(carrying).collect();
     let (vectors, summary, faults) = seen(&Line::of_blocks(&blocks, 0).bytes());
     assert_eq!(vectors[640..], answers.concat());
     assert_eq!((summary, faults), ([75, 0, 1, 0], NONE));
@@ -141,7 +147,7 @@ fn the_descramblers_zero_start_shows_in_the_first_block() {
     assert_eq!(idles(0), NONE);
     assert_eq!(idles(1 << 57), TYPE, "type 1f");
     assert_eq!(idles(1 << 49), CONTROL_CODE, "C0 is 01");
-    let sets = |start| faults(&[encode(&LOCAL_FAULT).unwrap(); 100], start);
+    let sets = |start| faults(&[carrying(&LOCAL_FAULT); 100], start);
     assert_eq!(sets(0), NONE);
     assert_eq!(sets(1 << 25), SET_CODE, "O0 is 1");
     assert_eq!(faults(&[block(DATA, 0); 100], (1 << 58) - 1), NONE, "data is as good with other octets");
@@ -178,10 +184,11 @@ fn the_four_together_are_the_tested_blocks_of_kind_e() {
     let mut random = Random::new(5);
     let mut all = NONE;
     for n in 0..2_000 {
-        let line = damaged(&mut random);
-        let blocks = receive(&line, usize::MAX, usize::MAX, &mut [0; 32]).ok().unwrap().blocks;
-        let bad = blocks.iter().filter(|block| kind(block) == Kind::E).count() as u64;
-        let (_, _, faults) = seen(&line);
+        let edition = random.pick(&EDITIONS);
+        let line = damaged(edition, &mut random);
+        let blocks = receive(edition as u64, &line, usize::MAX, usize::MAX, &mut [0; 32]).ok().unwrap().blocks;
+        let bad = blocks.iter().filter(|block| kind(edition, block) == Kind::E).count() as u64;
+        let (_, _, faults) = seen_in(edition, &line);
         assert_eq!(faults.iter().sum::<u64>(), bad, "line {n}");
         all = std::array::from_fn(|i| all[i] + faults[i]);
     }
@@ -192,11 +199,12 @@ fn the_four_together_are_the_tested_blocks_of_kind_e() {
 #[test]
 fn counts_only_grow_with_the_line() {
     let mut random = Random::new(6);
-    for _ in 0..20 {
-        let line = damaged(&mut random);
+    for round in 0..20 {
+        let edition = EDITIONS[round % 2];
+        let line = damaged(edition, &mut random);
         let mut before = NONE;
         for n in 0..=line.len() {
-            let (_, _, now) = seen(&line[..n]);
+            let (_, _, now) = seen_in(edition, &line[..n]);
             assert!((0..4).all(|i| before[i] <= now[i]), "{n} bytes");
             assert!(now.iter().sum::<u64>() <= 1 + before.iter().sum::<u64>(), "{n} bytes");
             before = now;
@@ -208,13 +216,13 @@ fn counts_only_grow_with_the_line() {
 #[test]
 fn a_clean_line_adds_nothing_in_lock() {
     let mut random = Random::new(7);
-    for cut in 0..66 {
+    for (cut, edition) in (0..66).flat_map(|cut| EDITIONS.map(|edition| (cut, edition))) {
         let blocks: Vec<Block> = (0..800).map(|_| data(&mut random)).chain([idle(); 200]).collect();
         let mut line = Line::of_blocks(&blocks, random.start_state());
         line.cut(0, cut);
         let bytes = line.bytes();
-        let (_, [_, _, locked, _], before) = seen(&bytes[..bytes.len() - 200 * 66 / 8]);
-        let (_, _, after) = seen(&bytes);
+        let (_, [_, _, locked, _], before) = seen_in(edition, &bytes[..bytes.len() - 200 * 66 / 8]);
+        let (_, _, after) = seen_in(edition, &bytes);
         assert_eq!((locked, after), (1, before), "after {cut} bits");
     }
 }

@@ -1,10 +1,11 @@
 //! Request 6/13: the last frame of a capture. A missing next block counts as C, and a flag says that the last vector was judged
-//! without its successor.
-use compare::calls::agreed;
+//! without its successor. In both editions.
+use compare::calls::{agreed, agreed_in_both};
 use compare::lines::{block, end, idle, invalid, start, until_high, Line};
 use compare::lists;
 use compare::random::Random;
 use compare::reference::block::{kind_of_vector, Block, Kind, CONTROL, DATA, TERMINATE};
+use compare::reference::edition::EDITIONS;
 use compare::reference::vector::{vector, Character, Vector, ERROR, LOCAL_FAULT};
 use std::cmp::Ordering;
 use Character::{Control, Data};
@@ -27,7 +28,7 @@ fn data() -> Block {
 
 /// The last vectors of a line, two of them, and its flag.
 fn last_two(line: &Line) -> ([Vector; 2], u64) {
-    let (vectors, words) = agreed(&line.bytes());
+    let (vectors, words) = agreed_in_both(&line.bytes());
     let last: [u8; 20] = *vectors.last_chunk().unwrap();
     ([last[..10].try_into().unwrap(), last[10..].try_into().unwrap()], words[9])
 }
@@ -70,7 +71,7 @@ fn taken_back_by_an_invalid_header(blocks: &[Block], left: [u64; 3]) {
     assert_eq!(last(blocks), (lists::end(), 1));
     let more = Line::of_blocks(&[blocks, &[invalid()]].concat(), 0);
     assert_eq!(last_two(&more), ([ERROR, LOCAL_FAULT], 0));
-    assert_eq!(agreed(&more.bytes()).1[1..4], left);
+    assert_eq!(agreed_in_both(&more.bytes()).1[1..4], left);
 }
 
 /// "A next block that loses lock still counts as E": its header is the 16th invalid one of 64.
@@ -114,7 +115,7 @@ fn a_next_block_cut_in_the_middle_is_missing() {
 
 #[test]
 fn an_empty_capture_has_no_flag() {
-    let (vectors, words) = agreed(&[]);
+    let (vectors, words) = agreed_in_both(&[]);
     assert_eq!((vectors, words), (vec![], [0; 12]));
 }
 
@@ -159,18 +160,19 @@ fn a_last_terminate_is_local_fault_while_not_locked_or_high() {
 fn only_a_last_vector_with_the_flag_may_change_in_a_longer_capture() {
     let mut random = Random::new(8);
     let (mut flagged, mut changed) = (0, 0);
-    for _ in 0..20 {
-        let vectors = lists::list_after_lock(160, 100, &mut random);
-        let mut line = Line::of_list(&vectors, random.start_state());
+    for round in 0..40 {
+        let edition = EDITIONS[round % 2];
+        let vectors = lists::list_after_lock(edition, 160, 100, &mut random);
+        let mut line = Line::of_list(edition, &vectors, random.start_state());
         line.flip_some(random.below(4), 66 * 64, &mut random);
         let line = line.bytes();
-        let (all, _) = agreed(&line);
+        let (all, _) = agreed(edition, &line);
         for n in 9..line.len() {
-            let (vectors, words) = agreed(&line[..n]);
+            let (vectors, words) = agreed(edition, &line[..n]);
             let (before, last) = vectors.split_last_chunk::<10>().unwrap();
             let same = all.starts_with(&vectors);
             assert!(all.starts_with(before) && (same || words[9] == 1), "{n} bytes");
-            assert_eq!(words[9], (kind_of_vector(last) == Kind::T) as u64, "{n} bytes");
+            assert_eq!(words[9], (kind_of_vector(edition, last) == Kind::T) as u64, "{n} bytes");
             flagged += words[9];
             changed += !same as u64;
         }

@@ -1,9 +1,10 @@
-//! "Run and compared": document 01's own list, each run through the library and held to numbers that stand here.
-use compare::calls::{agreed, Calls};
+//! "Run and compared": document 01's own list, each run through the library in both editions and held to numbers that stand here.
+use compare::calls::{agreed, agreed_in_both, in_both, Calls};
 use compare::library::{received, send, sent, word};
 use compare::lines::{data, idle, Line};
 use compare::lists;
 use compare::random::Random;
+use compare::reference::edition::EDITIONS;
 use compare::reference::vector::{vector, Character, ERROR, LOCAL_FAULT};
 
 const WINDOW: usize = 19_531;
@@ -19,8 +20,15 @@ fn idles(blocks: usize, invalid: impl IntoIterator<Item = usize>) -> Line {
 
 /// What receiving says of a line: tested, slips, locked, high.
 fn summary(line: &Line) -> [u64; 4] {
-    let (_, [tested, slips, locked, high, ..]) = agreed(&line.bytes());
-    [tested, slips, locked, high]
+    in_both(|edition| {
+        let (_, [tested, slips, locked, high, ..]) = agreed(edition, &line.bytes());
+        [tested, slips, locked, high]
+    })
+}
+
+/// The vectors of a line.
+fn vectors(line: &Line) -> Vec<u8> {
+    in_both(|edition| received(edition, &line.bytes()).0)
 }
 
 #[test]
@@ -32,7 +40,7 @@ fn sixty_three_valid_headers_then_an_invalid_one_slip() {
 fn sixty_four_valid_headers_lock() {
     let line = idles(64, []);
     assert_eq!(summary(&line), [64, 0, 1, 0]);
-    let (vectors, _) = received(&line.bytes());
+    let vectors = vectors(&line);
     assert_eq!(vectors[..630], LOCAL_FAULT.repeat(63));
     assert_eq!(vectors[630..], lists::idle());
 }
@@ -64,25 +72,28 @@ fn in_lock_the_sixteenth_invalid_of_sixty_four_slips() {
 #[test]
 fn a_hundred_thousand_vectors_pass_and_four_more_are_refused() {
     let vectors = lists::idle().repeat(100_004);
-    let mut line = vec![7; 825_033];
-    let mut summary = [7; 24];
-    assert_eq!(send(&vectors[..1_000_000], 0, &mut line[..825_000], &mut summary), 0);
-    let (answers, summary) = received(&line[..825_000]);
-    assert_eq!((word(&summary, 0), word(&summary, 4)), (100_000, 100_000));
-    assert_eq!(answers[..630], LOCAL_FAULT.repeat(63));
-    assert_eq!(answers[630..], vectors[630..1_000_000]);
-    let mut summary = [7; 24];
-    assert_eq!(send(&vectors, 0, &mut line, &mut summary), 1);
-    assert_eq!(summary, [0; 24]);
+    for edition in EDITIONS {
+        let (mut line, mut summary) = (vec![7; 825_033], [7; 24]);
+        assert_eq!(send(edition as u64, &vectors[..1_000_000], 0, &mut line[..825_000], &mut summary), 0);
+        let (answers, summary) = received(edition, &line[..825_000]);
+        assert_eq!((word(&summary, 0), word(&summary, 4)), (100_000, 100_000));
+        assert_eq!(answers[..630], LOCAL_FAULT.repeat(63));
+        assert_eq!(answers[630..], vectors[630..1_000_000]);
+        let mut summary = [7; 24];
+        assert_eq!(send(edition as u64, &vectors, 0, &mut line, &mut summary), 1);
+        assert_eq!(summary, [0; 24]);
+    }
 }
 
 #[test]
 fn start_state_2_58_less_1_passes_and_2_58_is_refused() {
     let vectors = lists::idle().repeat(4);
-    let (mut line, mut summary) = ([0; 33], [0; 24]);
-    assert_eq!(send(&vectors, (1 << 58) - 1, &mut line, &mut summary), 0);
-    assert_eq!(send(&vectors, 1 << 58, &mut line, &mut summary), 3);
-    Calls::new(1).send(&vectors, (1 << 58) - 1).unwrap();
+    for edition in EDITIONS {
+        let (mut line, mut summary) = ([0; 33], [0; 24]);
+        assert_eq!(send(edition as u64, &vectors, (1 << 58) - 1, &mut line, &mut summary), 0);
+        assert_eq!(send(edition as u64, &vectors, 1 << 58, &mut line, &mut summary), 3);
+        Calls::new(edition, 1).send(&vectors, (1 << 58) - 1).unwrap();
+    }
 }
 
 /// Blocks of a window that are far from each other, so that lock stays. Window 0 begins with block 64.
@@ -115,7 +126,7 @@ fn high_is_cleared_at_the_end_of_a_window_with_fewer() {
 
 #[test]
 fn nine_zero_bytes_give_one_local_fault_vector_and_one_slip() {
-    let (vectors, words) = agreed(&[0; 9]);
+    let (vectors, words) = agreed_in_both(&[0; 9]);
     assert_eq!(vectors, LOCAL_FAULT);
     assert_eq!(words, [1, 1, 0, 0, 1, 1, 0, 0, 0, 0, 0, 0]);
 }
@@ -128,17 +139,12 @@ fn four_flips_turn_type_1e_into_2d() {
     for bit in [6, 7, 10, 11] {
         line.flip(66 * 65 + 2 + bit);
     }
-    let (vectors, _) = received(&line.bytes());
     let made_up = [0x0f, 0x07, 0x07, 0x07, 0x07, 0x01, 0x9c, 0x00, 0x00, 0x00];
-    assert_eq!(vectors[640..650], lists::idle());
-    assert_eq!(vectors[650..660], ERROR);
-    assert_eq!(vectors[660..670], made_up);
-    assert_eq!(vectors[670..680], lists::idle());
+    assert_eq!(vectors(&line)[640..], [lists::idle(), ERROR, made_up, lists::idle()].concat());
     // with any three of the four it is an error
     for left_out in [6, 7, 10, 11] {
         line.flip(66 * 65 + 2 + left_out);
-        let (vectors, _) = received(&line.bytes());
-        assert_eq!(vectors[660..670], ERROR);
+        assert_eq!(vectors(&line)[660..670], ERROR);
         line.flip(66 * 65 + 2 + left_out);
     }
 }
@@ -152,8 +158,7 @@ fn lock_is_found_from_each_of_the_66_positions() {
         line.cut(0, cut);
         let [_, slips, locked, high] = summary(&line);
         assert_eq!((slips, locked, high), ((66 - cut as u64) % 66, 1, 0), "after {cut} bits");
-        let (vectors, _) = received(&line.bytes());
-        assert_eq!(vectors[vectors.len() - 10..], lists::idle(), "after {cut} bits");
+        assert!(vectors(&line).ends_with(&lists::idle()), "after {cut} bits");
     }
 }
 
@@ -164,9 +169,9 @@ fn a_start_after_an_error_begins_no_frame() {
     list.extend(ERROR);
     list.extend(lists::start());
     list.extend(lists::idle().repeat(2));
-    let (line, summary) = sent(&list, 0);
+    let (line, summary) = in_both(|edition| sent(edition, &list, 0));
     assert_eq!(word(&summary, 2), 2);
-    let (vectors, _) = received(&line);
+    let (vectors, _) = agreed_in_both(&line);
     assert_eq!(vectors[640..660], ERROR.repeat(2));
 }
 
@@ -179,8 +184,8 @@ fn terminate_is_accepted_where_a_start_or_control_block_follows() {
         for vector in [start, end, next, lists::idle()] {
             list.extend(vector);
         }
-        let (line, _) = sent(&list, 0);
-        let (vectors, _) = received(&line);
+        let (line, _) = in_both(|edition| sent(edition, &list, 0));
+        let (vectors, _) = agreed_in_both(&line);
         assert_eq!(vectors[640..650], start);
         assert_eq!(vectors[650..660] == end, taken);
         assert_eq!(vectors[650..660] == ERROR, !taken);

@@ -1,7 +1,10 @@
-//! The demands claim no more than is so: for each edit of one of their statements (crates/demands/must-fail, crates/damage/must-fail) a run of
-//! the library for which the edited statement is untrue. The tests have the edits' names.
-use compare::library::{receive, received, send, sent, words, COUNTERS_BYTES, RECEIVE_SUMMARY_BYTES};
-use compare::lists::{end, idle, start};
+//! The demands, and what is said of the old edition, claim no more than is so: for each edit of one of their statements (must-fail of
+//! crates/demands, crates/damage, crates/editions) a run of the library for which the edited statement is untrue. The tests have the edits'
+//! names.
+use compare::library::{receive, received, send, sent, word, words, COUNTERS_BYTES, RECEIVE_SUMMARY_BYTES};
+use compare::lines::flip;
+use compare::lists::{end, idle, low_power, start};
+use compare::reference::edition::Edition;
 use compare::reference::vector::{characters, vector, Character, Vector, ERROR, LOCAL_FAULT};
 
 /// Eight data octets.
@@ -18,10 +21,20 @@ fn list(idles: usize, vectors: &[Vector]) -> Vec<Vector> {
 }
 
 /// What comes back of the line sent for a list from state 0, these of its bits flipped.
+fn returned_in(edition: Edition, list: &[Vector], flips: &[usize]) -> Vec<Vector> {
+    let (mut line, _) = sent(edition, &list.concat(), 0);
+    flip(&mut line, flips);
+    received(edition, &line).0.chunks(10).map(|vector| vector.try_into().unwrap()).collect()
+}
+
+/// The same in the old edition.
 fn returned(list: &[Vector], flips: &[usize]) -> Vec<Vector> {
-    let (mut line, _) = sent(&list.concat(), 0);
-    flips.iter().for_each(|bit| line[bit / 8] ^= 1 << (bit % 8));
-    received(&line).0.chunks(10).map(|vector| vector.try_into().unwrap()).collect()
+    returned_in(Edition::Old, list, flips)
+}
+
+/// How many vectors of a list sending replaces.
+fn replaced(edition: Edition, list: &[Vector]) -> u64 {
+    word(&sent(edition, &list.concat(), 0).1, 2)
 }
 
 /// The control flags and control characters (among them the codes of ordered sets) of a vector.
@@ -36,7 +49,7 @@ fn control(vector: &Vector) -> [Option<u8>; 8] {
 #[test]
 fn every_edit_has_its_test() {
     let here = include_str!("statements.rs");
-    for package in ["demands", "damage"] {
+    for package in ["demands", "damage", "editions"] {
         let folder = format!("{}/../crates/{package}/must-fail", env!("CARGO_MANIFEST_DIR"));
         for edit in std::fs::read_dir(folder).unwrap() {
             let path = edit.unwrap().path();
@@ -60,23 +73,31 @@ fn frame_begun_before_lock() {
     assert_eq!(returned(&sent, &[])[62..65], [LOCAL_FAULT, ERROR, end()]);
 }
 
+/// The list is legal in the newer edition, and its vector 63 meets a receiver that has just locked.
+#[test]
+fn sixty_three_control_vectors() {
+    let sent = list(63, &[low_power()]);
+    assert_eq!(replaced(Edition::New, &sent), 0);
+    assert_eq!(returned_in(Edition::New, &sent, &[])[63], ERROR);
+}
+
 #[test]
 fn one_slip() {
-    let (line, _) = sent(&idle().repeat(64), 0);
-    assert_eq!(words(&received(&line).1)[1], 0);
+    let (line, _) = sent(Edition::Old, &idle().repeat(64), 0);
+    assert_eq!(words(&received(Edition::Old, &line).1)[1], 0);
 }
 
 #[test]
 fn refusal_without_place() {
     let mut vectors = idle().repeat(4);
     vectors[15] = 16;
-    assert_eq!(send(&vectors, 0, &mut [0; 33], &mut [0; 24]), 5 + 256 * 15);
+    assert_eq!(send(0, &vectors, 0, &mut [0; 33], &mut [0; 24]), 5 + 256 * 15);
 }
 
 #[test]
 fn room_cut() {
     let mut room = [7; 11];
-    assert_eq!(receive(&[0; 9], &mut room, &mut [0; RECEIVE_SUMMARY_BYTES], &mut [0; COUNTERS_BYTES]), 0);
+    assert_eq!(receive(0, &[0; 9], &mut room, &mut [0; RECEIVE_SUMMARY_BYTES], &mut [0; COUNTERS_BYTES]), 0);
     assert_eq!(room[..10], LOCAL_FAULT);
     assert_eq!(room[10], 7);
 }
@@ -94,7 +115,7 @@ fn sixty_vectors() {
 #[test]
 fn summary_of_ones() {
     let mut summary = [1; 24];
-    assert_eq!(send(&[0; 39], 0, &mut [], &mut summary), 2);
+    assert_eq!(send(0, &[0; 39], 0, &mut [], &mut summary), 2);
     assert_eq!(summary, [0; 24]);
 }
 
@@ -114,6 +135,17 @@ fn four_flips() {
     let flips = [0, 1, 4, 5].map(|bit| 64 * 66 + 2 + bit);
     let answer = returned(&list(64, &[sent]), &flips)[64];
     assert_eq!(control(&answer), [Some(0x07), Some(0x07), Some(0x07), Some(0x07), Some(0x9c), None, None, None]);
+}
+
+/// "Code 06 differs from idle in two bits": bits 15 and 16 of block 65's payload show again 58 places after them, in the first code of
+/// block 66.
+#[test]
+fn two_flips_new() {
+    let sent = list(68, &[]);
+    let answer = returned_in(Edition::New, &sent, &[4307, 4308])[66];
+    assert_eq!(control(&answer), std::array::from_fn(|i| Some(if i == 0 { 0x06 } else { 0x07 })));
+    assert_ne!(control(&answer), control(&sent[66]));
+    assert_ne!(answer, ERROR);
 }
 
 /// A flipped payload bit shows 39 places after it and not 38.
@@ -136,4 +168,21 @@ fn whole_header() {
     let answer = returned(&sent, &[65 * 66, 65 * 66 + 1])[65];
     assert_eq!(control(&answer), [None; 8]);
     assert_ne!(control(&answer), control(&end()));
+}
+
+// ---- crates/editions
+
+/// "In the old one nothing changes", and in the newer one a vector of 06 is sent as its own block.
+#[test]
+fn sent_in_the_newer() {
+    let list = list(65, &[low_power()]);
+    assert_eq!([Edition::Old, Edition::New].map(|edition| replaced(edition, &list)), [1, 0]);
+}
+
+/// It is received as its own block too, where the old edition answers the error vector.
+#[test]
+fn received_in_the_newer() {
+    let (line, _) = sent(Edition::New, &list(65, &[low_power()]).concat(), 0);
+    let answer = |edition| received(edition, &line).0[650..660].to_vec();
+    assert_eq!([answer(Edition::Old), answer(Edition::New)], [ERROR.to_vec(), low_power().to_vec()]);
 }

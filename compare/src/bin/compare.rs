@@ -1,7 +1,8 @@
-//! Compares the library with the second program: `compare [--seed N] [--only GROUP] [--soak]`. The seed fixes everything; --soak goes
-//! on with one seed after another until a difference is found.
+//! Compares the library with the second program: `compare [--seed N] [--only GROUP] [--soak]`. Each group runs in both editions. The
+//! seed fixes everything; --soak goes on with one seed after another until a difference is found.
 use compare::calls::{Calls, Tally};
 use compare::groups::{Group, GROUPS};
+use compare::reference::edition::{Edition, EDITIONS};
 use std::process::ExitCode;
 use std::time::{Instant, SystemTime};
 
@@ -34,16 +35,17 @@ fn options() -> Result<Options, String> {
     Ok(options)
 }
 
-/// Runs a group and says what it compared, or what differed.
-fn run(group: &Group, seed: u64, total: &mut Tally) -> bool {
+/// Runs a group in an edition and says what it compared, or what differed.
+fn run(group: &Group, edition: Edition, seed: u64, total: &mut Tally) -> bool {
     let began = Instant::now();
-    let mut calls = Calls::new(seed);
+    let mut calls = Calls::new(edition, seed);
     let outcome = (group.run)(&mut calls);
     let t = calls.tally;
     total.add(&t);
     println!(
-        "{:<11} {:>9} {:>9} {:>9} {:>9} {:>8} {:>6.1} s  {}",
+        "{:<11} {:>7} {:>9} {:>9} {:>9} {:>9} {:>8} {:>6.1} s  {}",
         group.name,
+        edition as u64,
         t.sends,
         t.sent,
         t.receives,
@@ -61,17 +63,22 @@ fn run(group: &Group, seed: u64, total: &mut Tally) -> bool {
 /// Runs the groups once; the number of those that passed and that failed.
 fn round(options: &Options, seed: u64) -> (usize, usize) {
     println!("seed {seed}");
-    println!("{:<11} {:>9} {:>9} {:>9} {:>9} {:>8}", "group", "sends", "blocks", "receives", "blocks", "refused");
+    println!(
+        "{:<11} {:>7} {:>9} {:>9} {:>9} {:>9} {:>8}",
+        "group", "edition", "sends", "blocks", "receives", "blocks", "refused"
+    );
     let mut total = Tally::default();
     let (mut passed, mut failed) = (0, 0);
     for group in &GROUPS {
         if options.only.as_ref().is_some_and(|name| name != group.name) {
             continue;
         }
-        if run(group, seed, &mut total) {
-            passed += 1;
-        } else {
-            failed += 1;
+        for edition in EDITIONS {
+            if run(group, edition, seed, &mut total) {
+                passed += 1;
+            } else {
+                failed += 1;
+            }
         }
     }
     println!("compared: {} blocks sent, {} blocks received, {} refusals", total.sent, total.received, total.refusals);
@@ -79,8 +86,8 @@ fn round(options: &Options, seed: u64) -> (usize, usize) {
     println!("bad blocks received: {header} header, {type_byte} type, {control_code} control code, {set_code} ordered set code");
     println!("lines that end with an accepted Terminate: {}", total.alone);
     println!(
-        "frames begun: {}, vectors replaced: {}; counters at the top: {}",
-        total.begun, total.replaced, total.full
+        "frames begun: {}, vectors replaced: {}, low power idle: {}; counters at the top: {}",
+        total.begun, total.replaced, total.low_power, total.full
     );
     (passed, failed)
 }

@@ -1,38 +1,29 @@
 //! One block at a time: types, octets, codes.
 use crate::calls::{Calls, Outcome};
-use crate::lines::{self, block, Line};
+use crate::lines::{self, block, carrying, of_any_kind, Line};
 use crate::lists;
 use crate::random::Random;
-use crate::reference::block::{encode, kind, put, width, Block, Format, Kind, FORMATS};
+use crate::reference::block::{kind, kinds, put, width, Block, Format, Kind, FORMATS};
+use crate::reference::edition::Edition;
 use crate::reference::vector::Vector;
 
-const KINDS: [Kind; 5] = [Kind::D, Kind::C, Kind::S, Kind::T, Kind::E];
-
-/// A block of a kind; of kind E it is any control block.
-fn of_kind(kind: Kind, random: &mut Random) -> Block {
-    match kind {
-        Kind::E => lines::control(random),
-        _ => encode(&lists::of_kind(kind, random)).unwrap(),
-    }
-}
-
 /// A line in lock whose block 64 or 65 is this one: after a block that gives any diagram state, before any kind or none.
-fn around(tested: Block, random: &mut Random) -> Line {
+fn around(edition: Edition, tested: Block, random: &mut Random) -> Line {
     let mut blocks = vec![lines::idle(); 64];
     if !random.once_in(4) {
-        blocks.push(of_kind(random.pick(&KINDS), random));
+        blocks.push(of_any_kind(edition, random));
     }
     blocks.push(tested);
     if !random.once_in(8) {
-        blocks.push(of_kind(random.pick(&KINDS), random));
+        blocks.push(of_any_kind(edition, random));
     }
     Line::of_blocks(&blocks, random.start_state())
 }
 
-/// Payloads that stand at an edge: all codes idle, all ones, all codes 1e, both O codes f, one of them.
-fn edges() -> [u64; 5] {
-    let error_codes = (0..8).map(|i| 0x1e << (8 + 7 * i)).sum();
-    [0, u64::MAX, error_codes, 0xff << 32, 0x0f << 32]
+/// Payloads that stand at an edge: all codes idle, all ones, all codes 1e, all codes 06, both O codes f, one of them.
+fn edges() -> [u64; 6] {
+    let all = |code: u64| (0..8).map(|i| code << (8 + 7 * i)).sum();
+    [0, u64::MAX, all(0x1e), all(0x06), 0xff << 32, 0x0f << 32]
 }
 
 pub fn types(calls: &mut Calls) -> Outcome {
@@ -41,7 +32,7 @@ pub fn types(calls: &mut Calls) -> Outcome {
             let random_ones = [(); 7].map(|_| calls.random.word());
             for rest in edges().into_iter().chain(random_ones) {
                 let tested = block(header, (rest & !255) | type_byte);
-                let line = around(tested, &mut calls.random);
+                let line = around(calls.edition, tested, &mut calls.random);
                 calls.receive(&line.bytes())?;
             }
         }
@@ -65,10 +56,11 @@ pub fn octets(calls: &mut Calls) -> Outcome {
                 let mut list = lists::idle().repeat(64);
                 for octet in 0..=255 {
                     let good = match FORMATS.get(format) {
-                        Some(format) => lists::of_format(format, &mut calls.random),
+                        Some(format) => lists::of_format(calls.edition, format, &mut calls.random),
                         None => lists::data(&mut calls.random),
                     };
-                    list.extend(lists::of_kind(calls.random.pick(&KINDS), &mut calls.random));
+                    let before = calls.random.pick(kinds(calls.edition));
+                    list.extend(lists::of_kind(calls.edition, before, &mut calls.random));
                     list.extend(with_octet(&good, position, octet, control));
                 }
                 let start = calls.random.start_state();
@@ -86,9 +78,9 @@ pub fn codes(calls: &mut Calls) -> Outcome {
         for field in &format.fields {
             let mut blocks = vec![lines::idle(); 64];
             for value in 0..1u32 << width(*field) {
-                let mut tested = good(format, &mut calls.random);
+                let mut tested = good(calls.edition, format, &mut calls.random);
                 put(&mut tested.payload, at, width(*field), value as u8);
-                blocks.push(of_kind(calls.random.pick(&KINDS), &mut calls.random));
+                blocks.push(of_any_kind(calls.edition, &mut calls.random));
                 blocks.push(tested);
             }
             let start = calls.random.start_state();
@@ -100,11 +92,11 @@ pub fn codes(calls: &mut Calls) -> Outcome {
 }
 
 /// A block of a format that is not bad, its unused bits random.
-pub fn good(format: &Format, random: &mut Random) -> Block {
+pub fn good(edition: Edition, format: &Format, random: &mut Random) -> Block {
     loop {
-        let mut block = encode(&lists::of_format(format, random)).unwrap();
+        let mut block = carrying(&lists::of_format(edition, format, random));
         unused(format, &mut block, random);
-        if kind(&block) != Kind::E {
+        if kind(edition, &block) != Kind::E {
             return block;
         }
     }

@@ -5,18 +5,20 @@ use crate::lists::list_after_lock;
 use crate::random::Random;
 use crate::reference::block::Block;
 use crate::reference::diagrams::WINDOW;
+use crate::reference::edition::{Edition, EDITIONS};
 
-/// A good line of `n` blocks that locks at once.
-fn good(n: usize, random: &mut Random) -> Line {
+/// A good line of `n` blocks, sent in this edition, that locks at once.
+fn good(edition: Edition, n: usize, random: &mut Random) -> Line {
     let strays = random.pick(&[0, 20]);
-    let vectors = list_after_lock(n, strays, random);
-    Line::of_list(&vectors, random.start_state())
+    let vectors = list_after_lock(edition, n, strays, random);
+    Line::of_list(edition, &vectors, random.start_state())
 }
 
 pub fn flips(calls: &mut Calls) -> Outcome {
     for n in 0..2_000 {
         let blocks = 68 + 4 * calls.random.below(40);
-        let mut line = good(blocks, &mut calls.random);
+        let sender = calls.random.pick(&EDITIONS);
+        let mut line = good(sender, blocks, &mut calls.random);
         let from = if n % 3 == 0 { 0 } else { 66 * 64 };
         line.flip_some(n % 4, from, &mut calls.random);
         calls.receive(&line.bytes())?;
@@ -26,7 +28,7 @@ pub fn flips(calls: &mut Calls) -> Outcome {
 
 pub fn noise(calls: &mut Calls) -> Outcome {
     for _ in 0..500 {
-        let mut line = good(400, &mut calls.random);
+        let mut line = good(calls.edition, 400, &mut calls.random);
         for _ in 0..1 + calls.random.below(3) {
             let from = calls.random.below(line.bits.len());
             let count = 1 << calls.random.below(14);
@@ -59,7 +61,7 @@ pub fn slips(calls: &mut Calls) -> Outcome {
         let middle = 66 * 500 + calls.random.below(66);
         line.cut(middle, position);
         calls.receive(&line.bytes())?;
-        let mut line = good(1_000, &mut calls.random);
+        let mut line = good(calls.edition, 1_000, &mut calls.random);
         let middle = 66 * 200 + calls.random.below(66);
         line.stretch(middle, position, &mut calls.random);
         calls.receive(&line.bytes())?;
@@ -69,7 +71,7 @@ pub fn slips(calls: &mut Calls) -> Outcome {
 
 pub fn lock(calls: &mut Calls) -> Outcome {
     for n in 0..400 {
-        let mut line = good(600, &mut calls.random);
+        let mut line = good(calls.edition, 600, &mut calls.random);
         // some 4 to 24 invalid headers in 64
         let one_in = 2 + n % 15;
         for block in 64..600 {
@@ -81,7 +83,7 @@ pub fn lock(calls: &mut Calls) -> Outcome {
     }
     // 15, 16 or 17 invalid headers in a span of 64, wherever the span lies
     for _ in 0..400 {
-        let mut line = good(400, &mut calls.random);
+        let mut line = good(calls.edition, 400, &mut calls.random);
         let from = 64 + calls.random.below(200);
         for _ in 0..15 + calls.random.below(4) {
             line.spoil_header(from + calls.random.below(64));
@@ -116,7 +118,7 @@ fn spoil_window(line: &mut Line, from: usize, count: usize, random: &mut Random)
 
 pub fn rate(calls: &mut Calls) -> Outcome {
     for n in 0..9 {
-        let mut line = good(64 + 3 * WINDOW as usize + 400, &mut calls.random);
+        let mut line = good(calls.edition, 64 + 3 * WINDOW as usize + 400, &mut calls.random);
         for window in 0..4 {
             let count = calls.random.pick(&[0, 14, 15, 15, 16, 16, 17, 40]);
             spoil_window(&mut line, 64 + WINDOW as usize * window, count, &mut calls.random);
@@ -129,7 +131,7 @@ pub fn rate(calls: &mut Calls) -> Outcome {
         calls.receive(&line.bytes())?;
     }
     for one_in in [100, 400, 1_200, 1_300, 2_000] {
-        let mut line = good(50_000, &mut calls.random);
+        let mut line = good(calls.edition, 50_000, &mut calls.random);
         for block in 64..50_000 {
             if calls.random.once_in(one_in) {
                 line.spoil_header(block);
@@ -141,12 +143,12 @@ pub fn rate(calls: &mut Calls) -> Outcome {
 }
 
 pub fn truncated(calls: &mut Calls) -> Outcome {
-    let bytes = good(100, &mut calls.random).bytes();
+    let bytes = good(calls.edition, 100, &mut calls.random).bytes();
     for n in 0..=bytes.len() {
         calls.receive(&bytes[..n])?;
     }
     for _ in 0..200 {
-        let mut line = good(300, &mut calls.random);
+        let mut line = good(calls.edition, 300, &mut calls.random);
         line.flip_some(2, 0, &mut calls.random);
         let bytes = line.bytes();
         let n = calls.random.below(bytes.len());

@@ -47,7 +47,7 @@ fn code_fields(format: &Format) -> Vec<(Item, usize)> {
 fn one_code(calls: &mut Calls, format: &Format) -> Outcome {
     for (field, at) in code_fields(format) {
         for code in 0..1 << width(field) {
-            let mut tested = good(format, &mut calls.random);
+            let mut tested = good(calls.edition, format, &mut calls.random);
             put(&mut tested.payload, at, width(field), code);
             receive(calls, tested)?;
         }
@@ -61,7 +61,7 @@ fn two_codes(calls: &mut Calls, format: &Format) -> Outcome {
     for (i, one) in fields.iter().enumerate() {
         for other in &fields[i + 1..] {
             for _ in 0..16 {
-                let mut tested = good(format, &mut calls.random);
+                let mut tested = good(calls.edition, format, &mut calls.random);
                 for (field, at) in [one, other] {
                     put(&mut tested.payload, *at, width(*field), calls.random.byte());
                 }

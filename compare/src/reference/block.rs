@@ -1,4 +1,5 @@
-//! "Characters", "Block formats" and "Kinds".
+//! "Characters", "Block formats" and "Kinds", and what request 9/13 adds to them.
+use super::edition::Edition;
 use super::vector::{characters, vector, Character, Vector};
 use std::sync::LazyLock;
 use Character::{Control, Data};
@@ -10,6 +11,8 @@ pub enum Kind {
     S,
     T,
     E,
+    /// Eight low power idles: in the new edition alone.
+    LI,
 }
 
 /// "Block bits 0 and 1 are the header [..] Bits 2 to 65 are the payload, lowest bit of each field first."
@@ -23,9 +26,29 @@ pub struct Block {
 pub const DATA: [bool; 2] = [false, true];
 pub const CONTROL: [bool; 2] = [true, false];
 
-/// Table 49-1: XGMII octet and 7-bit code.
-pub const CODES: [(u8, u8); 8] =
-    [(0x07, 0x00), (0xfe, 0x1e), (0x1c, 0x2d), (0x3c, 0x33), (0x7c, 0x4b), (0xbc, 0x55), (0xdc, 0x66), (0xf7, 0x78)];
+/// Table 49-1: XGMII octet and 7-bit code. Request 9/13: the newer edition "adds the low power idle character, XGMII 06 with code 06".
+#[rustfmt::skip]
+const CODES: [(u8, u8); 9] = [
+    (0x07, 0x00), (0xfe, 0x1e), (0x1c, 0x2d), (0x3c, 0x33), (0x7c, 0x4b), (0xbc, 0x55), (0xdc, 0x66), (0xf7, 0x78),
+    (0x06, 0x06),
+];
+
+/// The character table of an edition: "These eight 7-bit codes are the valid control characters", and the ninth in the new one.
+pub fn codes(edition: Edition) -> &'static [(u8, u8)] {
+    match edition {
+        Edition::Old => &CODES[..8],
+        Edition::New => &CODES,
+    }
+}
+
+/// The kinds that a block can have.
+pub fn kinds(edition: Edition) -> &'static [Kind] {
+    const KINDS: [Kind; 6] = [Kind::D, Kind::C, Kind::S, Kind::T, Kind::E, Kind::LI];
+    match edition {
+        Edition::Old => &KINDS[..5],
+        Edition::New => &KINDS,
+    }
+}
 
 /// "9c has ordered set code 0 and 5c code f."
 pub const O_CODES: [(u8, u8); 2] = [(0x9c, 0x0), (0x5c, 0xf)];
@@ -100,10 +123,10 @@ fn first(table: &[(u8, u8)], code: u8) -> Option<u8> {
 }
 
 /// What a character of a vector puts into its field, where the figure's letter fits it. Start and Terminate have no field.
-fn sent(letter: char, character: Character) -> Option<u8> {
+fn sent(edition: Edition, letter: char, character: Character) -> Option<u8> {
     match (letter, character) {
         ('D', Data(octet)) => Some(octet),
-        ('C', Control(octet)) => second(&CODES, octet),
+        ('C', Control(octet)) => second(codes(edition), octet),
         ('O', Control(octet)) => second(&O_CODES, octet),
         ('S', Control(START)) | ('T', Control(TERMINATE)) => Some(0),
         _ => None,
@@ -111,10 +134,10 @@ fn sent(letter: char, character: Character) -> Option<u8> {
 }
 
 /// The character that a field's value stands for, where there is one.
-pub fn received(letter: char, value: u8) -> Option<Character> {
+pub fn received(edition: Edition, letter: char, value: u8) -> Option<Character> {
     match letter {
         'D' => Some(Data(value)),
-        'C' => first(&CODES, value).map(Control),
+        'C' => first(codes(edition), value).map(Control),
         'O' => first(&O_CODES, value).map(Control),
         'S' => Some(Control(START)),
         'T' => Some(Control(TERMINATE)),
@@ -135,26 +158,29 @@ pub fn put(payload: &mut [bool; 64], at: usize, count: usize, value: u8) {
 }
 
 /// The block that carries a vector, where there is one.
-pub fn encode(vector: &Vector) -> Option<Block> {
+pub fn encode(edition: Edition, vector: &Vector) -> Option<Block> {
     let characters = characters(vector);
     if let Some(block) = encode_data(&characters) {
         return Some(block);
     }
-    FORMATS.iter().find_map(|format| encode_as(format, &characters))
+    FORMATS.iter().find_map(|format| encode_as(edition, format, &characters))
 }
 
 /// "A data block carries D0 to D7."
 fn encode_data(characters: &[Character; 8]) -> Option<Block> {
     let mut payload = [false; 64];
     for (i, character) in characters.iter().enumerate() {
-        put(&mut payload, 8 * i, 8, sent('D', *character)?);
+        let Data(octet) = character else {
+            return None;
+        };
+        put(&mut payload, 8 * i, 8, *octet);
     }
     Some(Block { header: DATA, payload })
 }
 
-fn encode_as(format: &Format, characters: &[Character; 8]) -> Option<Block> {
+fn encode_as(edition: Edition, format: &Format, characters: &[Character; 8]) -> Option<Block> {
     for (letter, i) in &format.characters {
-        sent(*letter, characters[*i])?;
+        sent(edition, *letter, characters[*i])?;
     }
     let mut payload = [false; 64];
     put(&mut payload, 0, 8, format.type_byte);
@@ -162,7 +188,7 @@ fn encode_as(format: &Format, characters: &[Character; 8]) -> Option<Block> {
     for field in &format.fields {
         let (letter, i) = *field;
         if letter != '-' {
-            put(&mut payload, at, width(*field), sent(letter, characters[i])?);
+            put(&mut payload, at, width(*field), sent(edition, letter, characters[i])?);
         }
         at += width(*field);
     }
@@ -186,32 +212,37 @@ pub fn fields_of(format: &Format, block: &Block) -> Vec<(Item, usize, u8)> {
 }
 
 /// "A received block is: D, header 01. C, header 10 and [..]. E, all else."
-pub fn kind(block: &Block) -> Kind {
+pub fn kind(edition: Edition, block: &Block) -> Kind {
     match block.header {
         DATA => Kind::D,
-        CONTROL => format_of(block).map_or(Kind::E, |format| kind_as(format, block)),
+        CONTROL => format_of(block).map_or(Kind::E, |format| kind_as(edition, format, block)),
         _ => Kind::E,
     }
 }
 
-fn kind_as(format: &Format, block: &Block) -> Kind {
-    for ((letter, _), _, value) in fields_of(format, block) {
-        let valid = letter == '-' || received(letter, value).is_some();
+fn kind_as(edition: Edition, format: &Format, block: &Block) -> Kind {
+    let fields = fields_of(format, block);
+    for ((letter, _), _, value) in &fields {
+        let valid = *letter == '-' || received(edition, *letter, *value).is_some();
         // "type 1e with eight valid codes none of which is 1e"
-        if !valid || (format.type_byte == 0x1e && value == 0x1e) {
+        if !valid || (format.type_byte == 0x1e && *value == 0x1e) {
             return Kind::E;
         }
+    }
+    // request 9/13: type 1e with eight codes 06 is the extra kind; a mixture with others stays what it was
+    if format.type_byte == 0x1e && fields.iter().all(|(_, _, value)| *value == 0x06) {
+        return Kind::LI;
     }
     format.kind
 }
 
 /// "A vector to be sent has the kind of the block that would carry it, E if none."
-pub fn kind_of_vector(vector: &Vector) -> Kind {
-    encode(vector).map_or(Kind::E, |block| kind(&block))
+pub fn kind_of_vector(edition: Edition, vector: &Vector) -> Kind {
+    encode(edition, vector).map_or(Kind::E, |block| kind(edition, &block))
 }
 
 /// The vector of a block that is not of kind E.
-pub fn decode(block: &Block) -> Vector {
+pub fn decode(edition: Edition, block: &Block) -> Vector {
     if block.header == DATA {
         return vector(&std::array::from_fn(|i| Data(number(&block.payload, 8 * i, 8))));
     }
@@ -220,11 +251,11 @@ pub fn decode(block: &Block) -> Vector {
     vector(&std::array::from_fn(|i| {
         let (letter, _) = format.characters[i];
         let field = fields.iter().find(|(item, _, _)| *item == (letter, i));
-        received(letter, field.map_or(0, |(_, _, value)| *value)).unwrap()
+        received(edition, letter, field.map_or(0, |(_, _, value)| *value)).unwrap()
     }))
 }
 
 /// "In state E the sent block is type 1e with eight codes 1e".
-pub fn error_block() -> Block {
-    encode(&super::vector::ERROR).unwrap()
+pub fn error_block(edition: Edition) -> Block {
+    encode(edition, &super::vector::ERROR).unwrap()
 }

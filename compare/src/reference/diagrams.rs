@@ -1,7 +1,7 @@
 //! "Diagrams": transmit, lock, error rate and receive, one step each.
 use super::block::Kind;
 
-/// "INIT, C, D, T, E are numbered 0 to 4".
+/// "INIT, C, D, T, E are numbered 0 to 4", and the state that request 9/13 adds is 5.
 #[derive(Clone, Copy, PartialEq, Eq, Debug)]
 pub enum State {
     Init = 0,
@@ -9,15 +9,23 @@ pub enum State {
     D = 2,
     T = 3,
     E = 4,
+    LI = 5,
 }
 
-/// The transmit diagram's next state.
+/// The transmit diagram's next state. No block of the old edition is of kind LI, so its diagram is this one too.
 pub fn transmit(state: State, kind: Kind) -> State {
     match state {
         // "after INIT, C or T, kind C goes to C, S to D, others to E"
-        State::Init | State::C | State::T => match kind {
+        State::Init => match kind {
             Kind::C => State::C,
             Kind::S => State::D,
+            _ => State::E,
+        },
+        // in the new edition LI to LI, after C or T
+        State::C | State::T => match kind {
+            Kind::C => State::C,
+            Kind::S => State::D,
+            Kind::LI => State::LI,
             _ => State::E,
         },
         // "After D: D to D, T to T, others to E"
@@ -26,37 +34,30 @@ pub fn transmit(state: State, kind: Kind) -> State {
             Kind::T => State::T,
             _ => State::E,
         },
-        // "After E: C to C, D to D, T to T, E and S to E"
+        // "After E: C to C, D to D, T to T, E and S to E"; in the new edition LI to LI
         State::E => match kind {
             Kind::C => State::C,
             Kind::D => State::D,
             Kind::T => State::T,
+            Kind::LI => State::LI,
             Kind::E | Kind::S => State::E,
+        },
+        // after LI: LI to LI, C to C, others to E, Start too
+        State::LI => match kind {
+            Kind::C => State::C,
+            Kind::LI => State::LI,
+            _ => State::E,
         },
     }
 }
 
-/// The receive diagram's next state, with the kind that the next block counts as.
+/// The receive diagram's next state, with the kind that the next block counts as. Its steps are those of the transmit diagram, but for
+/// Terminate.
 pub fn receive(state: State, kind: Kind, next: Kind) -> State {
-    // "T to T if the next block is S or C"
-    let ends = next == Kind::S || next == Kind::C;
-    match state {
-        State::Init | State::C | State::T => match kind {
-            Kind::C => State::C,
-            Kind::S => State::D,
-            _ => State::E,
-        },
-        State::D => match kind {
-            Kind::D => State::D,
-            Kind::T if ends => State::T,
-            _ => State::E,
-        },
-        State::E => match kind {
-            Kind::C => State::C,
-            Kind::D => State::D,
-            Kind::T if ends => State::T,
-            _ => State::E,
-        },
+    match transmit(state, kind) {
+        // "T to T if the next block is S or C", in the new edition or LI, "others to E"
+        State::T if !matches!(next, Kind::S | Kind::C | Kind::LI) => State::E,
+        reached => reached,
     }
 }
 

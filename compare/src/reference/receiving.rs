@@ -2,6 +2,7 @@
 use super::block::{decode, kind, Block, Kind};
 use super::counters::{Counters, COUNTERS_BYTES};
 use super::diagrams::{receive as step, ErrorRate, Lock, State};
+use super::edition::Edition;
 use super::fault::{fault, Fault, FAULTS};
 use super::scrambler::Scrambler;
 use super::vector::{Vector, ERROR, LOCAL_FAULT};
@@ -11,6 +12,7 @@ pub const MOST_LINE_BYTES: usize = 825_000;
 pub const SUMMARY_BYTES: usize = 96;
 
 pub struct Received {
+    pub edition: Edition,
     /// The tested blocks, descrambled.
     pub blocks: Vec<Block>,
     /// The receive diagram's state at each of them.
@@ -24,20 +26,22 @@ pub struct Received {
 impl Received {
     /// "Receiving counts the four reasons over all blocks tested."
     pub fn faults(&self) -> [u64; 4] {
-        let found: Vec<Fault> = self.blocks.iter().filter_map(fault).collect();
+        let found: Vec<Fault> = self.blocks.iter().filter_map(|block| fault(self.edition, block)).collect();
         FAULTS.map(|reason| found.iter().filter(|fault| **fault == reason).count() as u64)
     }
 
     /// "The last vector was judged without its successor, set exactly when it is an accepted Terminate": a block of kind T that is
     /// answered as it is decoded.
     pub fn alone(&self) -> bool {
-        self.blocks.last().is_some_and(|last| kind(last) == Kind::T && self.vectors.ends_with(&decode(last)))
+        let accepted =
+            |last| kind(self.edition, last) == Kind::T && self.vectors.ends_with(&decode(self.edition, last));
+        self.blocks.last().is_some_and(accepted)
     }
 
     /// "Begun means a block of kind S answered as decoded".
     pub fn begun(&self) -> u64 {
         let decoded = |state: &State| *state != State::Init && *state != State::E;
-        let begun = |(block, state): &(&Block, &State)| kind(block) == Kind::S && decoded(state);
+        let begun = |(block, state): &(&Block, &State)| kind(self.edition, block) == Kind::S && decoded(state);
         self.blocks.iter().zip(&self.states).filter(begun).count() as u64
     }
 
@@ -57,7 +61,15 @@ impl Received {
 
 /// What receiving answers, given the lengths of the lent vectors and of the lent summary. "A counters record is lent to each call and
 /// updated in place".
-pub fn receive(line: &[u8], room: usize, summary_room: usize, counters: &mut [u8]) -> Result<Received, Refusal> {
+pub fn receive(
+    edition: u64,
+    line: &[u8],
+    room: usize,
+    summary_room: usize,
+    counters: &mut [u8],
+) -> Result<Received, Refusal> {
+    // "checked before all others"
+    let edition = Edition::numbered(edition)?;
     if line.len() > MOST_LINE_BYTES {
         return refused(1);
     }
@@ -68,7 +80,7 @@ pub fn receive(line: &[u8], room: usize, summary_room: usize, counters: &mut [u8
     let Some(record) = counters.first_chunk_mut::<COUNTERS_BYTES>() else {
         return refused(4);
     };
-    let received = receive_all(line);
+    let received = receive_all(edition, line);
     let mut total = Counters::of_bytes(record);
     total.add(&received);
     *record = total.bytes();
@@ -83,16 +95,16 @@ struct Tested {
 
 impl Tested {
     /// "The next block counts as E if testing it leaves the receiver not locked or high".
-    fn counts_as(&self) -> Kind {
+    fn counts_as(&self, edition: Edition) -> Kind {
         if self.up {
-            kind(&self.block)
+            kind(edition, &self.block)
         } else {
             Kind::E
         }
     }
 }
 
-fn receive_all(line: &[u8]) -> Received {
+fn receive_all(edition: Edition, line: &[u8]) -> Received {
     let mut lock = Lock::default();
     let mut rate = ErrorRate::default();
     let mut scrambler = Scrambler { state: 0 };
@@ -112,10 +124,10 @@ fn receive_all(line: &[u8]) -> Received {
         block.payload = scrambler.descramble(&block.payload);
         tested.push(Tested { block, up: lock.locked && !rate.high });
     }
-    let states = states(&tested);
+    let states = states(edition, &tested);
     let blocks: Vec<Block> = tested.into_iter().map(|tested| tested.block).collect();
-    let vectors = states.iter().zip(&blocks).flat_map(|(state, block)| answer(*state, block)).collect();
-    Received { blocks, states, vectors, slips, locked: lock.locked, high: rate.high }
+    let vectors = states.iter().zip(&blocks).flat_map(|(state, block)| answer(edition, *state, block)).collect();
+    Received { edition, blocks, states, vectors, slips, locked: lock.locked, high: rate.high }
 }
 
 fn block_at(line: &[u8], at: usize) -> Block {
@@ -124,24 +136,24 @@ fn block_at(line: &[u8], at: usize) -> Block {
 }
 
 /// One state for each tested block.
-fn states(tested: &[Tested]) -> Vec<State> {
+fn states(edition: Edition, tested: &[Tested]) -> Vec<State> {
     let mut state = State::Init;
     let mut states = Vec::new();
     for (n, now) in tested.iter().enumerate() {
         // request 6/13: "A missing next block now counts as C"
-        let next = tested.get(n + 1).map_or(Kind::C, Tested::counts_as);
+        let next = tested.get(n + 1).map_or(Kind::C, |next| next.counts_as(edition));
         // "Not locked or high: state INIT"
-        state = if now.up { step(state, kind(&now.block), next) } else { State::Init };
+        state = if now.up { step(state, kind(edition, &now.block), next) } else { State::Init };
         states.push(state);
     }
     states
 }
 
 /// "State E answers the error vector, the others the decoded block", and INIT the Local Fault vector.
-fn answer(state: State, block: &Block) -> Vector {
+fn answer(edition: Edition, state: State, block: &Block) -> Vector {
     match state {
         State::Init => LOCAL_FAULT,
         State::E => ERROR,
-        _ => decode(block),
+        _ => decode(edition, block),
     }
 }

@@ -1,6 +1,7 @@
 //! Sending a list of vectors.
 use super::block::{encode, error_block, kind_of_vector, Block};
 use super::diagrams::{transmit, State};
+use super::edition::Edition;
 use super::scrambler::Scrambler;
 use super::vector::Vector;
 use super::{refused, Refusal};
@@ -23,7 +24,9 @@ impl Sent {
 }
 
 /// What sending answers, given the lengths of the lent line and of the lent summary.
-pub fn send(vectors: &[u8], start: u64, room: usize, summary_room: usize) -> Result<Sent, Refusal> {
+pub fn send(edition: u64, vectors: &[u8], start: u64, room: usize, summary_room: usize) -> Result<Sent, Refusal> {
+    // "checked before all others"
+    let edition = Edition::numbered(edition)?;
     if vectors.len() > MOST_VECTOR_BYTES {
         return refused(1);
     }
@@ -41,17 +44,17 @@ pub fn send(vectors: &[u8], start: u64, room: usize, summary_room: usize) -> Res
             return Err(Refusal { number: 5, place });
         }
     }
-    Ok(send_all(vectors, start))
+    Ok(send_all(edition, vectors, start))
 }
 
-fn send_all(vectors: &[u8], start: u64) -> Sent {
+fn send_all(edition: Edition, vectors: &[u8], start: u64) -> Sent {
     let mut scrambler = Scrambler { state: start };
     let mut diagram = State::Init;
     let mut replaced = 0;
     let mut bits = Vec::new();
     for vector in vectors.chunks(10) {
         let block;
-        (diagram, block) = next_block(diagram, vector.try_into().unwrap());
+        (diagram, block) = next_block(edition, diagram, vector.try_into().unwrap());
         if diagram == State::E {
             replaced += 1;
         }
@@ -62,10 +65,10 @@ fn send_all(vectors: &[u8], start: u64) -> Sent {
 }
 
 /// "In state E the sent block is type 1e with eight codes 1e, else the vector's own."
-pub fn next_block(diagram: State, vector: &Vector) -> (State, Block) {
-    match transmit(diagram, kind_of_vector(vector)) {
-        State::E => (State::E, error_block()),
-        state => (state, encode(vector).unwrap()),
+pub fn next_block(edition: Edition, diagram: State, vector: &Vector) -> (State, Block) {
+    match transmit(diagram, kind_of_vector(edition, vector)) {
+        State::E => (State::E, error_block(edition)),
+        state => (state, encode(edition, vector).unwrap()),
     }
 }
 

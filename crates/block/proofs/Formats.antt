@@ -9,6 +9,7 @@ use lib.Dec.{T, lit≤, eqb, ltb, leb, ltb→lt, leb→le, eqb→eq}
 use lib.ListN.{length, getD, List·getD-eq-default}
 use lib.Pow.{shr-shr}
 use borrow.Author.Tests.{eqb-true}
+use Rattle.block.specs.declared.Edition.{Edition}
 use Rattle.block.specs.Block.{Slot, Control, Calm, Data, Set, Start, Terminate, Field, Format, noFormat, dataBlock, controlBlocks, octetOf, controlBit, octetAt, flagAt, flagsAt, byType, formatOf}
 use Rattle.block.specs.Rows.{width, fieldAt, placeAt, bitsOf, formats, row, rowOf, indexOf, formatRow}
 use Rattle.block.proofs.Tests.{both-left, both-right, or-right, all, holds, every, every-at, each, at, eight}
@@ -20,20 +21,21 @@ abbrev pub has : List Field → ℕ → Bool
 has [] p = false
 has (f ∷ fs) p = cond (eqb (f .char) p) true (has fs p)
 
--- where the fields are read one after the other, that of p is read at its place
-pub octet-at : (fs : List Field) (x p : ℕ) → T (has fs p)
-    → octetAt fs x p ≡ octetOf (fieldAt fs p .slot) (x / 2 ^ placeAt fs p % 2 ^ fieldAt fs p .bits)
-octet-at [] x p h = absurd h
-octet-at (f ∷ fs) x p h = go (eqb (f .char) p) h (octet-at fs (x / 2 ^ f .bits) p)
-  where
-    go : (b : Bool) → T (cond b true (has fs p))
-        → (T (has fs p) → octetAt fs (x / 2 ^ f .bits) p ≡ octetOf (fieldAt fs p .slot) (x / 2 ^ f .bits / 2 ^ placeAt fs p % 2 ^ fieldAt fs p .bits))
-        → cond b (octetOf (f .slot) (x % 2 ^ f .bits)) (octetAt fs (x / 2 ^ f .bits) p)
-        ≡ octetOf (cond b f (fieldAt fs p) .slot) (x / 2 ^ cond b 0 (f .bits + placeAt fs p) % 2 ^ cond b f (fieldAt fs p) .bits)
-    go true h ih = ap (λ (y : ℕ). octetOf (f .slot) (y % 2 ^ f .bits)) (sym (div-one x))
-    go false h ih =
-        ih h
-        ∙ ap (λ (y : ℕ). octetOf (fieldAt fs p .slot) (y % 2 ^ fieldAt fs p .bits)) (shr-shr x (f .bits) (placeAt fs p))
+module _ (ed : Edition) where
+  -- where the fields are read one after the other, that of p is read at its place
+  pub octet-at : (fs : List Field) (x p : ℕ) → T (has fs p)
+      → octetAt ed fs x p ≡ octetOf ed (fieldAt fs p .slot) (x / 2 ^ placeAt fs p % 2 ^ fieldAt fs p .bits)
+  octet-at [] x p h = absurd h
+  octet-at (f ∷ fs) x p h = go (eqb (f .char) p) h (octet-at fs (x / 2 ^ f .bits) p)
+    where
+      go : (b : Bool) → T (cond b true (has fs p))
+          → (T (has fs p) → octetAt ed fs (x / 2 ^ f .bits) p ≡ octetOf ed (fieldAt fs p .slot) (x / 2 ^ f .bits / 2 ^ placeAt fs p % 2 ^ fieldAt fs p .bits))
+          → cond b (octetOf ed (f .slot) (x % 2 ^ f .bits)) (octetAt ed fs (x / 2 ^ f .bits) p)
+          ≡ octetOf ed (cond b f (fieldAt fs p) .slot) (x / 2 ^ cond b 0 (f .bits + placeAt fs p) % 2 ^ cond b f (fieldAt fs p) .bits)
+      go true h ih = ap (λ (y : ℕ). octetOf ed (f .slot) (y % 2 ^ f .bits)) (sym (div-one x))
+      go false h ih =
+          ih h
+          ∙ ap (λ (y : ℕ). octetOf ed (fieldAt fs p .slot) (y % 2 ^ fieldAt fs p .bits)) (shr-shr x (f .bits) (placeAt fs p))
 
 pub flag-at : (fs : List Field) (p : ℕ) → T (has fs p) → flagAt fs p ≡ controlBit (fieldAt fs p .slot)
 flag-at [] p h = absurd h

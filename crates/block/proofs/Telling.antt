@@ -7,7 +7,9 @@ use Prim.Native.Nat.{ℕ, _/_, _%_, _^_, _<_}
 use native.Mathlib.Nat.{mod-lt, lt-of-lt-of-le}
 use lib.Dec.{T, lit<, lit≤, eqb, ltb, ltb→lt}
 use lib.Pow.{pow-mono, pow-pos}
-use Rattle.block.specs.Block.{controls, sets, without, octetIn, Slot, Control, Calm, Data, Set, Start, Terminate, Format, octetOf, octetAt, flagsAt, vectorOf}
+use Rattle.block.specs.declared.Edition.{Edition}
+use Rattle.block.specs.declared.Edition.the-variants.{Old, New}
+use Rattle.block.specs.Block.{controlsIn, sets, without, octetIn, Slot, Control, Calm, Data, Set, Start, Terminate, Format, octetOf, octetAt, flagsAt, vectorOf}
 use Rattle.block.specs.Rows.{fieldAt}
 use Rattle.block.proofs.Tests.{both-left, both-right, all, every}
 use Rattle.block.proofs.Formats.{flags-lt, sound, sound-small}
@@ -36,33 +38,42 @@ set-tells : {n : ℕ} → (n < 256) ⊎ (n ≡ 512) → Tells n
 set-tells (inl l) = inl l
 set-tells (inr e) = inr (inr e)
 
-octet-tells : (s : Slot) (v : ℕ) → v < 256 → Tells (octetOf s v)
-octet-tells Control v l = control-tells (octet-in 256 controls v tt)
-octet-tells Calm v l = control-tells (octet-in 256 (without 0x1e controls) v tt)
-octet-tells Data v l = inl l
-octet-tells Set v l = set-tells (octet-in 512 sets v tt)
-octet-tells Start v l = inl (lit< tt)
-octet-tells Terminate v l = inl (lit< tt)
+controls-bytes : (ed : Edition) → T (every (λ p. ltb (p .0) 256) (controlsIn ed))
+controls-bytes Old = tt
+controls-bytes New = tt
 
--- the character p of a sound format
-pub character-tells : (f : Format) → T (all (sound f)) → (x p : ℕ) → p < 8 → Tells (octetAt (f .fields) (x / 2 ^ f .lead) p)
-character-tells f s x p h =
-    let w = fieldAt (f .fields) p .bits in
-    let v = x / 2 ^ placeOf f p % 2 ^ w in
-    let small : v < 2 ^ 8 = lt-of-lt-of-le (mod-lt (x / 2 ^ placeOf f p) (pow-pos w)) (pow-mono {j = 8} (sound-small f s p h)) in
-    subst Tells (sym (read-at f x p s h)) (octet-tells (fieldAt (f .fields) p .slot) v small)
+calm-bytes : (ed : Edition) → T (every (λ p. ltb (p .0) 256) (without 0x1e (controlsIn ed)))
+calm-bytes Old = tt
+calm-bytes New = tt
 
 -- the ten bytes of a vector
 abbrev pub AllTell : List ℕ → Type 0
 AllTell [] = Unit
 AllTell (a ∷ l) = Tells a × AllTell l
 
-pub vector-tells : (f : Format) → T (all (sound f)) → (x : ℕ) → AllTell (vectorOf f x)
-vector-tells f s x =
-    (inl (flag 0), (at 0 (lit< tt), (at 1 (lit< tt), (at 2 (lit< tt), (at 3 (lit< tt), (inl (flag 4), (at 4 (lit< tt), (at 5 (lit< tt), (at 6 (lit< tt), (at 7 (lit< tt), tt))))))))))
-  where
-    at : (p : ℕ) → p < 8 → Tells (octetAt (f .fields) (x / 2 ^ f .lead) p)
-    at = character-tells f s x
+module _ (ed : Edition) where
+  octet-tells : (s : Slot) (v : ℕ) → v < 256 → Tells (octetOf ed s v)
+  octet-tells Control v l = control-tells (octet-in 256 (controlsIn ed) v (controls-bytes ed))
+  octet-tells Calm v l = control-tells (octet-in 256 (without 0x1e (controlsIn ed)) v (calm-bytes ed))
+  octet-tells Data v l = inl l
+  octet-tells Set v l = set-tells (octet-in 512 sets v tt)
+  octet-tells Start v l = inl (lit< tt)
+  octet-tells Terminate v l = inl (lit< tt)
 
-    flag : (p : ℕ) → flagsAt (f .fields) p < 256
-    flag p = lt-of-lt-of-le (flags-lt (f .fields) p) (lit≤ tt)
+  -- the character p of a sound format
+  pub character-tells : (f : Format) → T (all (sound f)) → (x p : ℕ) → p < 8 → Tells (octetAt ed (f .fields) (x / 2 ^ f .lead) p)
+  character-tells f s x p h =
+      let w = fieldAt (f .fields) p .bits in
+      let v = x / 2 ^ placeOf f p % 2 ^ w in
+      let small : v < 2 ^ 8 = lt-of-lt-of-le (mod-lt (x / 2 ^ placeOf f p) (pow-pos w)) (pow-mono {j = 8} (sound-small f s p h)) in
+      subst Tells (sym (read-at ed f x p s h)) (octet-tells (fieldAt (f .fields) p .slot) v small)
+
+  pub vector-tells : (f : Format) → T (all (sound f)) → (x : ℕ) → AllTell (vectorOf ed f x)
+  vector-tells f s x =
+      (inl (flag 0), (at 0 (lit< tt), (at 1 (lit< tt), (at 2 (lit< tt), (at 3 (lit< tt), (inl (flag 4), (at 4 (lit< tt), (at 5 (lit< tt), (at 6 (lit< tt), (at 7 (lit< tt), tt))))))))))
+    where
+      at : (p : ℕ) → p < 8 → Tells (octetAt ed (f .fields) (x / 2 ^ f .lead) p)
+      at = character-tells f s x
+
+      flag : (p : ℕ) → flagsAt (f .fields) p < 256
+      flag p = lt-of-lt-of-le (flags-lt (f .fields) p) (lit≤ tt)

@@ -1,10 +1,18 @@
-// Document 01, 'Kinds': what a block, or a vector to be sent, is: data, control, start, terminate, error.
+// Document 01, 'Kinds': what a block, or a vector to be sent, is: data, control, start, terminate, error; and in the newer edition of
+// Clause 49 low power idle (document 02, 9/13).
 pub enum Kind {
     D,
     C,
     S,
     T,
     E,
+    LI,
+}
+
+// Document 02, 9/13: the edition of Clause 49 in use.
+pub enum Edition {
+    Old,
+    New,
 }
 
 // Document 02, 1/13: why a received block is bad.
@@ -22,4 +30,5 @@ pub enum Class {
     S,
     T,
     Bad(Reason),
+    LI,
 }

@@ -64,14 +64,15 @@ receivedOf (Receive.Received answer) = body (Receiving.answerOf answer)
 receivedOf Receive.End = end
 receivedOf (Receive.Refused why place) = refused (numberOf why) place
 
--- the promise: `send_record` was lent `room` for the line, answered `r` and left `room′`
+-- 9/13: an edition is of the call and no field of a record; records are sent and received in the old one (number 0).
+-- The promise: `send_record` was lent `room` for the line, answered `r` and left `room′`
 abbrev pub SendsRecord : (file : List ℕ) (at start : ℕ) (room : List ℕ) (r : RecordSent) (room′ : List ℕ) → Type 0
 SendsRecord file at start room r room′ =
-    (sentOf r ≡ answering (λ vectors. Sending.sendAnswer vectors start (length room)) (bodyOfKind 1 file at))
-    × (room′ ≡ leaving (λ vectors. Sending.sendRoom vectors start room) room (bodyOfKind 1 file at))
+    (sentOf r ≡ answering (λ vectors. Sending.sendAnswer 0 vectors start (length room)) (bodyOfKind 1 file at))
+    × (room′ ≡ leaving (λ vectors. Sending.sendRoom 0 vectors start room) room (bodyOfKind 1 file at))
 
 -- the promise: `receive_record` was lent `room` for the vectors, answered `r` and left `room′`
 abbrev pub ReceivesRecord : (file : List ℕ) (at : ℕ) (room : List ℕ) (r : RecordReceived) (room′ : List ℕ) → Type 0
 ReceivesRecord file at room r room′ =
-    (receivedOf r ≡ answering (λ line. Receiving.receiveAnswer line (length room)) (bodyOfKind 2 file at))
-    × (room′ ≡ leaving (λ line. Receiving.receiveRoom line room) room (bodyOfKind 2 file at))
+    (receivedOf r ≡ answering (λ line. Receiving.receiveAnswer 0 line (length room)) (bodyOfKind 2 file at))
+    × (room′ ≡ leaving (λ line. Receiving.receiveRoom 0 line room) room (bodyOfKind 2 file at))

@@ -57,7 +57,7 @@ fn body_of_kind(file: &[u8], at: usize, kind: usize) -> Body
     }
 }
 
-// Sends the vectors of the record at a place of a capture.
+// Sends the vectors of the record at a place of a capture, in the old edition, as all records are.
 pub fn send_record(file: &[u8], at: usize, state: u64, line: &mut [u8]) -> RecordSent
     ensures { λ r. ⌜ SendsRecord (now (file .entry)) at state (now (line .entry)) r (now (line .exit)) ⌝ }
 {
@@ -65,12 +65,12 @@ pub fn send_record(file: &[u8], at: usize, state: u64, line: &mut [u8]) -> Recor
         Body::End => RecordSent::End,
         Body::Refused(why, place) => RecordSent::Refused(why, place),
         Body::Part { start, len } => {
-            RecordSent::Sent(sending::send(records::body(file, start, len), state, line))
+            RecordSent::Sent(sending::send(0, records::body(file, start, len), state, line))
         }
     }
 }
 
-// Receives the line bytes of the record at a place of a capture.
+// Receives the line bytes of the record at a place of a capture, in the old edition.
 pub fn receive_record(file: &[u8], at: usize, room: &mut [u8]) -> RecordReceived
     ensures { λ r. ⌜ ReceivesRecord (now (file .entry)) at (now (room .entry)) r (now (room .exit)) ⌝ }
 {
@@ -78,7 +78,7 @@ pub fn receive_record(file: &[u8], at: usize, room: &mut [u8]) -> RecordReceived
         Body::End => RecordReceived::End,
         Body::Refused(why, place) => RecordReceived::Refused(why, place),
         Body::Part { start, len } => {
-            RecordReceived::Received(receiving::receive(records::body(file, start, len), room))
+            RecordReceived::Received(receiving::receive(0, records::body(file, start, len), room))
         }
     }
 }

@@ -33,5 +33,5 @@ countersAfter c (received s) = updated c (s .counts) (s .handed)
 countersAfter c (refused number place) = c
 
 -- the promise: `receive` was lent `room` and the counters `c` too, answered `r` and left `room′` and `c′`
-abbrev pub ReceivesCounting : (line room : List ℕ) (c : Counters) (r : Received) (room′ : List ℕ) (c′ : Counters) → Type 0
-ReceivesCounting line room c r room′ c′ = Receives line room r room′ × (c′ ≡ countersAfter c (receiveAnswer line (length room)))
+abbrev pub ReceivesCounting : (edition : ℕ) (line room : List ℕ) (c : Counters) (r : Received) (room′ : List ℕ) (c′ : Counters) → Type 0
+ReceivesCounting edition line room c r room′ c′ = Receives edition line room r room′ × (c′ ≡ countersAfter c (receiveAnswer edition line (length room)))

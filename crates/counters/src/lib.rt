@@ -51,10 +51,10 @@ pub fn add_counts(c: Counters, n: Counts, h: Handed) -> Counters
 }
 
 // Receiving with counters by value: they come back with what the call added, or as they were.
-pub fn receive_by_value(line: &[u8], room: &mut [u8], c: Counters) -> Counted
-    ensures { λ r. ⌜ ReceivesCounting (now (line .entry)) (now (room .entry)) c (r .answer) (now (room .exit)) (r .counters) ⌝ }
+pub fn receive_by_value(edition: u64, line: &[u8], room: &mut [u8], c: Counters) -> Counted
+    ensures { λ r. ⌜ ReceivesCounting edition (now (line .entry)) (now (room .entry)) c (r .answer) (now (room .exit)) (r .counters) ⌝ }
 {
-    let answer = receiving::receive(line, room);
+    let answer = receiving::receive(edition, line, room);
     match answer {
         Received::Done(s) => {
             let n = s.counts;
@@ -72,10 +72,10 @@ pub fn receive_by_value(line: &[u8], room: &mut [u8], c: Counters) -> Counted
 }
 
 // Receiving with a lent record of counters, which is updated in place.
-pub fn receive(line: &[u8], room: &mut [u8], counters: &mut Counters) -> Received
-    ensures { λ r. ⌜ ReceivesCounting (now (line .entry)) (now (room .entry)) (now (counters .entry)) r (now (room .exit)) (now (counters .exit)) ⌝ }
+pub fn receive(edition: u64, line: &[u8], room: &mut [u8], counters: &mut Counters) -> Received
+    ensures { λ r. ⌜ ReceivesCounting edition (now (line .entry)) (now (room .entry)) (now (counters .entry)) r (now (room .exit)) (now (counters .exit)) ⌝ }
 {
-    let r = receive_by_value(line, room, *counters);
+    let r = receive_by_value(edition, line, room, *counters);
     let after = r.counters;
     *counters = after;
     r.answer

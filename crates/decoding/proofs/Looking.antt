@@ -8,11 +8,12 @@ use lib.Dec.{T}
 use lib.Bits.{bitAnd, and-mask}
 use lib.ListN.{getD}
 use lib.Pow.{pow-pos}
+use Rattle.block.specs.declared.Edition.{Edition}
 use Rattle.block.specs.Block.{Slot, Control, Calm, Data, Set, Start, Terminate, octetOf}
 use Rattle.block.specs.Rows.{width, fieldAt, placeAt, row}
 use Rattle.block.proofs.Formats.{blind, sound-width, sound-place, row-sound}
 use Rattle.block.proofs.Reading.{placeOf, read-at}
-use Rattle.tables.specs.Tables.{tables, octetsFrom}
+use Rattle.tables.specs.Tables.{editionIn, Lent, octetsFrom}
 use Rattle.tables.proofs.Entries.{shift-at, mask-at, base-at, octet-of}
 use Rattle.decoding.specs.Parts.{octetBy}
 
@@ -33,20 +34,21 @@ mask-small Set = omega arith
 mask-small Start = omega arith
 mask-small Terminate = omega arith
 
--- a slot that looks at its bits has a field of its width, inside the payload
-seen : (s : Slot) (a w x : ℕ) → w ≡ width s → a < 64 → octetOf s (x / 2 ^ (a % 64) % 2 ^ width s) ≡ octetOf s (x / 2 ^ a % 2 ^ w)
-seen s a w x e h = ap₂ (λ (n m : ℕ). octetOf s (x / 2 ^ n % 2 ^ m)) (mod-eq-of-lt h) (sym e)
+module _ (ed : Edition) where
+  -- a slot that looks at its bits has a field of its width, inside the payload
+  seen : (s : Slot) (a w x : ℕ) → w ≡ width s → a < 64 → octetOf ed s (x / 2 ^ (a % 64) % 2 ^ width s) ≡ octetOf ed s (x / 2 ^ a % 2 ^ w)
+  seen s a w x e h = ap₂ (λ (n m : ℕ). octetOf ed s (x / 2 ^ n % 2 ^ m)) (mod-eq-of-lt h) (sym e)
 
-looked : (s : Slot) (a w x : ℕ) → ((T (blind s) → ⊥) → w ≡ width s) → a + width s ≤ 64
-    → octetOf s (x / 2 ^ (a % 64) % 2 ^ width s) ≡ octetOf s (x / 2 ^ a % 2 ^ w)
-looked Control a w x e h = seen Control a w x (e (λ z. z)) (omega arith)
-looked Calm a w x e h = seen Calm a w x (e (λ z. z)) (omega arith)
-looked Data a w x e h = seen Data a w x (e (λ z. z)) (omega arith)
-looked Set a w x e h = seen Set a w x (e (λ z. z)) (omega arith)
-looked Start a w x e h = refl
-looked Terminate a w x e h = refl
+  looked : (s : Slot) (a w x : ℕ) → ((T (blind s) → ⊥) → w ≡ width s) → a + width s ≤ 64
+      → octetOf ed s (x / 2 ^ (a % 64) % 2 ^ width s) ≡ octetOf ed s (x / 2 ^ a % 2 ^ w)
+  looked Control a w x e h = seen Control a w x (e (λ z. z)) (omega arith)
+  looked Calm a w x e h = seen Calm a w x (e (λ z. z)) (omega arith)
+  looked Data a w x e h = seen Data a w x (e (λ z. z)) (omega arith)
+  looked Set a w x e h = seen Set a w x (e (λ z. z)) (omega arith)
+  looked Start a w x e h = refl
+  looked Terminate a w x e h = refl
 
-module _ (t : List ℕ) (e : t ≡ tables) (r p : ℕ) (hr : r < 16) (hp : p < 8) where
+module _ (t : List ℕ) (e : Lent t) (r p : ℕ) (hr : r < 16) (hp : p < 8) where
   slot : Slot
   slot = fieldAt (row r .fields) p .slot
 
@@ -97,10 +99,10 @@ module _ (t : List ℕ) (e : t ≡ tables) (r p : ℕ) (hr : r < 16) (hp : p < 8
     pub index-lt : index < 530
     index-lt = subst (λ (n : ℕ). n < 530) (sym index-is) (from-lt slot value value-lt)
 
-    pub found-octet : getD t index 0 ≡ octetBy r x p
+    pub found-octet : getD t index 0 ≡ octetBy (editionIn t) r x p
     unfolding value slot
     found-octet =
         ap (λ (n : ℕ). getD t n 0) index-is
         ∙ octet-of slot t e value value-lt
-        ∙ looked slot (placeOf (row r) p) (fieldAt (row r .fields) p .bits) x (sound-width (row r) (row-sound r hr) p hp) (sound-place (row r) (row-sound r hr) p hp)
-        ∙ sym (read-at (row r) x p (row-sound r hr) hp)
+        ∙ looked (editionIn t) slot (placeOf (row r) p) (fieldAt (row r .fields) p .bits) x (sound-width (row r) (row-sound r hr) p hp) (sound-place (row r) (row-sound r hr) p hp)
+        ∙ sym (read-at (editionIn t) (row r) x p (row-sound r hr) hp)

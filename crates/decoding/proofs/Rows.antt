@@ -8,10 +8,12 @@ use native.Mathlib.Omega.{arith}
 use lib.Dec.{eqb, lit<}
 use lib.ListN.{length}
 use borrow.Author.Tests.{eq-eqb, ne-eqb}
+use Rattle.block.specs.declared.Edition.{Edition}
+use Rattle.block.specs.declared.Edition.the-variants.{Old, New}
 use Rattle.block.specs.declared.Reason.the-variants.{Header, BlockType, ControlCode, SetCode}
 use Rattle.block.specs.declared.Class.{Class}
 use Rattle.block.specs.declared.Class.the-variants as Class
-use Rattle.block.specs.Block.{word, twoWords, Format, noFormat, dataBlock, flagsAt, byType, controlBlocks, formatOf, vectorOf, errorVector, decodedBy, decoded, good, classBy, classOf}
+use Rattle.block.specs.Block.{word, twoWords, Format, noFormat, dataBlock, flagsAt, byType, controlBlocks, formatOf, kindFor, vectorOf, errorVector, decodedBy, decoded, good, classBy, classOf}
 use Rattle.block.specs.Rows.{row, rowOf, indexOf}
 use Rattle.block.proofs.Formats.{flags-lt, row-sound, row-format, row-none}
 use Rattle.block.proofs.Reading.{Below, when-valid, when-not, data-below}
@@ -20,22 +22,7 @@ use Rattle.block.proofs.Classes.{None, none-below, class-good, class-control, c
 use Rattle.block.proofs.Sending.{ten}
 use Rattle.decoding.specs.Parts.{octetBy, lanesBy, overBy, badBy}
 
--- ---- the general row
-
-module _ (r x : ℕ) where
-  -- all eight octets are bytes
-  Small : Type 0
-  Small =
-      (octetBy r x 0 < 256) × (octetBy r x 1 < 256) × (octetBy r x 2 < 256) × (octetBy r x 3 < 256) × (octetBy r x 4 < 256) × (octetBy r x 5 < 256) × (octetBy r x 6 < 256) × (octetBy r x 7 < 256)
-
-  small-below : Small → Below 256 (vectorOf (row r) x)
-  unfolding Small
-  small-below s =
-      (omega (arith, flags-lt (row r .fields) 0), (s .0, (s .1, (s .2, (s .3, (omega (arith, flags-lt (row r .fields) 4), (s .4, (s .5, (s .6, (s .7, tt))))))))))
-
-  below-small : Below 256 (vectorOf (row r) x) → Small
-  unfolding Small
-  below-small w = (w .1 .0, w .1 .1 .0, w .1 .1 .1 .0, w .1 .1 .1 .1 .0, w .1 .1 .1 .1 .1 .1 .0, w .1 .1 .1 .1 .1 .1 .1 .0, w .1 .1 .1 .1 .1 .1 .1 .1 .0, w .1 .1 .1 .1 .1 .1 .1 .1 .1 .0)
+-- ---- numbers
 
 over-small : (a b c d : ℕ) → overBy a b c d ≡ 0 → (a < 256) × (b < 256) × (c < 256) × (d < 256)
 over-small a b c d e = (omega arith, omega arith, omega arith, omega arith)
@@ -49,33 +36,6 @@ lanes-back control a b c d p q s t = go control a b c d (omega arith) (omega ari
   where
     go : {l m n o : ℕ} (control a b c d : ℕ) → l ≡ a → m ≡ b → n ≡ c → o ≡ d → control ∷ l ∷ m ∷ n ∷ o ∷ [] ≡ control ∷ a ∷ b ∷ c ∷ d ∷ []
     go control a b c d p q s t = λ i. control ∷ p i ∷ q i ∷ s i ∷ t i ∷ []
-
--- the answer of a row whose eight characters are valid
-pub row-valid : (r x c0 d0 c1 d1 m n : ℕ) (c : Class)
-    → d0 ≡ lanesBy (octetBy r x 0) (octetBy r x 1) (octetBy r x 2) (octetBy r x 3)
-    → d1 ≡ lanesBy (octetBy r x 4) (octetBy r x 5) (octetBy r x 6) (octetBy r x 7)
-    → m ≡ overBy (octetBy r x 0) (octetBy r x 1) (octetBy r x 2) (octetBy r x 3)
-    → n ≡ overBy (octetBy r x 4) (octetBy r x 5) (octetBy r x 6) (octetBy r x 7)
-    → m + n ≡ 0 → c0 ≡ flagsAt (row r .fields) 0 → c1 ≡ flagsAt (row r .fields) 4 → c ≡ good (row r .kind)
-    → (c ≡ classBy (row r) x) × (twoWords c0 d0 c1 d1 ≡ decodedBy (row r) x)
-unfolding Small
-row-valid r x c0 d0 c1 d1 m n c e0 e1 o0 o1 z f0 f1 q =
-    let p : Small r x = (a .0, a .1, a .2, a .3, b .0, b .1, b .2, b .3) in
-    let w = small-below r x p in
-    (q ∙ sym (class-good (row r) x w), words ∙ sym (when-valid (row r) x w .1))
-  where
-    a : (octetBy r x 0 < 256) × (octetBy r x 1 < 256) × (octetBy r x 2 < 256) × (octetBy r x 3 < 256)
-    a = over-small (octetBy r x 0) (octetBy r x 1) (octetBy r x 2) (octetBy r x 3) (sym o0 ∙ omega arith)
-
-    b : (octetBy r x 4 < 256) × (octetBy r x 5 < 256) × (octetBy r x 6 < 256) × (octetBy r x 7 < 256)
-    b = over-small (octetBy r x 4) (octetBy r x 5) (octetBy r x 6) (octetBy r x 7) (sym o1 ∙ omega arith)
-
-    words : twoWords c0 d0 c1 d1 ≡ vectorOf (row r) x
-    words =
-        ap₂ (λ (l l′ : ℕ). twoWords c0 l c1 l′) e0 e1
-        ∙ ap₂ _++_ (lanes-back c0 (octetBy r x 0) (octetBy r x 1) (octetBy r x 2) (octetBy r x 3) (a .0) (a .1) (a .2) (a .3))
-        (lanes-back c1 (octetBy r x 4) (octetBy r x 5) (octetBy r x 6) (octetBy r x 7) (b .0) (b .1) (b .2) (b .3))
-        ∙ ten f0 refl refl refl refl f1 refl refl refl refl
 
 -- no octet of four says that a control code is bad
 Silent : (a b c d : ℕ) → Type 0
@@ -97,108 +57,6 @@ silent-bad a b c d p q u v s = omega (arith, one a p (s .0), one b q (s .1), one
     one a (inr (inl q)) e = absurd (false≢true (sym e ∙ eq-eqb 256 a (sym q)))
     one a (inr (inr q)) e = omega arith
 
--- of a row of which one character is not valid
-module _ (r x m n p q : ℕ) (inside : r < 16)
-    (o0 : m ≡ overBy (octetBy r x 0) (octetBy r x 1) (octetBy r x 2) (octetBy r x 3))
-    (o1 : n ≡ overBy (octetBy r x 4) (octetBy r x 5) (octetBy r x 6) (octetBy r x 7))
-    (b0 : p ≡ badBy (octetBy r x 0) (octetBy r x 1) (octetBy r x 2) (octetBy r x 3))
-    (b1 : q ≡ badBy (octetBy r x 4) (octetBy r x 5) (octetBy r x 6) (octetBy r x 7))
-    (z : m + n ≡ 0 → ⊥) where
-  not-small : Small r x → ⊥
-  unfolding Small
-  not-small s =
-      let a = o0 ∙ small-over (octetBy r x 0) (octetBy r x 1) (octetBy r x 2) (octetBy r x 3) (s .0) (s .1) (s .2) (s .3) in
-      let b = o1 ∙ small-over (octetBy r x 4) (octetBy r x 5) (octetBy r x 6) (octetBy r x 7) (s .4) (s .5) (s .6) (s .7) in
-      z (omega (arith, a, b))
-
-  error-is : errorVector ≡ decodedBy (row r) x
-  error-is = sym (when-not (row r) x (λ w. not-small (below-small r x w)) .1)
-
-  tells : (i : ℕ) → i < 8 → Tells (octetBy r x i)
-  tells = character-tells (row r) (row-sound r inside) x
-
-  -- none says that its control code is bad where none is counted
-  silent : p + q ≡ 0 → None 256 (vectorOf (row r) x)
-  unfolding Silent
-  silent e =
-      let a = bad-silent (octetBy r x 0) (octetBy r x 1) (octetBy r x 2) (octetBy r x 3) (sym b0 ∙ omega arith) in
-      let b = bad-silent (octetBy r x 4) (octetBy r x 5) (octetBy r x 6) (octetBy r x 7) (sym b1 ∙ omega arith) in
-      (flag 0, (a .0, (a .1, (a .2, (a .3, (flag 4, (b .0, (b .1, (b .2, (b .3, tt))))))))))
-    where
-      flag : (i : ℕ) → eqb 256 (flagsAt (row r .fields) i) ≡ false
-      flag i = ne-eqb 256 (flagsAt (row r .fields) i) (λ e. omega (arith, flags-lt (row r .fields) i))
-
-  counted : None 256 (vectorOf (row r) x) → p + q ≡ 0
-  unfolding Silent
-  counted w =
-      let a =
-      b0 ∙ silent-bad (octetBy r x 0) (octetBy r x 1) (octetBy r x 2) (octetBy r x 3) (tells 0 (lit< tt)) (tells 1 (lit< tt)) (tells 2 (lit< tt)) (tells 3 (lit< tt)) (w .1 .0, w .1 .1 .0, w .1 .1 .1 .0, w .1 .1 .1 .1 .0) in
-      let b =
-      b1 ∙ silent-bad (octetBy r x 4) (octetBy r x 5) (octetBy r x 6) (octetBy r x 7) (tells 4 (lit< tt)) (tells 5 (lit< tt)) (tells 6 (lit< tt)) (tells 7 (lit< tt)) (w .1 .1 .1 .1 .1 .1 .0, w .1 .1 .1 .1 .1 .1 .1 .0, w .1 .1 .1 .1 .1 .1 .1 .1 .0, w .1 .1 .1 .1 .1 .1 .1 .1 .1 .0) in
-      omega (arith, a, b)
-
-  pub row-set : p + q ≡ 0 → (Class.Bad SetCode ≡ classBy (row r) x) × (errorVector ≡ decodedBy (row r) x)
-  row-set e = (sym (class-set (row r) x (silent e) not-none), error-is)
-    where
-      not-none : None 512 (vectorOf (row r) x) → ⊥
-      not-none w = not-small (below-small r x (none-below (vectorOf (row r) x) (vector-tells (row r) (row-sound r inside) x) (silent e) w))
-
-  pub row-control : (p + q ≡ 0 → ⊥) → (Class.Bad ControlCode ≡ classBy (row r) x) × (errorVector ≡ decodedBy (row r) x)
-  row-control e = (sym (class-control (row r) x (λ w. e (counted w))), error-is)
-
--- ---- a block
-
--- eight data octets, straight from the payload
-pub data-answer : (h x : ℕ) → h ≡ 2 → (Class.D ≡ classOf h x) × (twoWords 0 (x % 4294967296) 0 (x / 4294967296) ≡ decoded h x)
-unfolding decoded
-data-answer h x e =
-    subst (λ (h : ℕ). (Class.D ≡ classOf h x) × (twoWords 0 (x % 4294967296) 0 (x / 4294967296) ≡ decoded h x)) (sym e) (sym (class-data x), words)
-  where
-    words : twoWords 0 (x % 4294967296) 0 (x / 4294967296) ≡ decoded 2 x
-    words =
-        ten refl (omega arith) (omega arith) (omega arith) (omega arith) refl (omega arith) (omega arith) (omega arith) (omega arith)
-        ∙ sym (when-valid dataBlock x (data-below x) .1)
-
--- eight idles
-pub idle-answer : (h x : ℕ) → h ≡ 1 → x ≡ 0x1e → (Class.C ≡ classOf h x) × (twoWords 15 0x07070707 15 0x07070707 ≡ decoded h x)
-unfolding classOf decoded
-idle-answer h x e q =
-    subst₂ (λ (h x : ℕ). (Class.C ≡ classOf h x) × (twoWords 15 0x07070707 15 0x07070707 ≡ decoded h x)) (sym e) (sym q) idle
-  where
-    idle : (Class.C ≡ classOf 1 0x1e) × (twoWords 15 0x07070707 15 0x07070707 ≡ decoded 1 0x1e)
-    idle = (refl, refl)
-
--- a control block by the row of its type
-pub row-answer : (h x r : ℕ) (c : Class) (v : List ℕ) → h ≡ 1 → r ≡ rowOf (x % 256) → r < 16
-    → (c ≡ classBy (row r) x) × (v ≡ decodedBy (row r) x) → (c ≡ classOf h x) × (v ≡ decoded h x)
-unfolding decoded
-row-answer h x r c v e q l w =
-    let f : row r ≡ formatOf h x = ap row q ∙ row-format 1 x ∙ ap (λ (n : ℕ). formatOf n x) (sym e) in (
-      w .0
-          ∙ ap (λ (n : ℕ). classBy (row n) x) q
-          ∙ sym (class-row x (subst (λ (n : ℕ). n < 16) q l))
-          ∙ ap (λ (n : ℕ). classOf n x) (sym e),
-      w .1 ∙ ap (λ (g : Format). decodedBy g x) f,
-    )
-
--- a type that is none, and a header that is neither
-no-format : (h x : ℕ) → formatOf h x ≡ noFormat → errorVector ≡ decoded h x
-unfolding decoded
-no-format h x f = ap (λ (g : Format). decodedBy g x) (sym f)
-
-pub no-type : (h x r : ℕ) → h ≡ 1 → r ≡ rowOf (x % 256) → 16 ≤ r → (Class.Bad BlockType ≡ classOf h x) × (errorVector ≡ decoded h x)
-no-type h x r e q l = (
-  sym (class-no-type x (subst (λ (n : ℕ). 16 ≤ n) q l)) ∙ ap (λ (n : ℕ). classOf n x) (sym e),
-  no-format h x (ap (λ (n : ℕ). formatOf n x) e ∙ sym (row-format 1 x) ∙ ap row (sym q) ∙ row-none r l),
-)
-
-pub no-header : (h x : ℕ) → (h ≡ 2 → ⊥) → (h ≡ 1 → ⊥) → (Class.Bad Header ≡ classOf h x) × (errorVector ≡ decoded h x)
-no-header h x n m = (
-  sym (class-no-header h x n m),
-  no-format h x
-      (ap₂ (λ (a b : Bool). cond a dataBlock (cond b (byType controlBlocks (x % 2 ^ 8)) noFormat)) (ne-eqb h 2 n) (ne-eqb h 1 m)),
-)
-
 -- a row's number
 index-le : (fs : List Format) (y : ℕ) → indexOf fs y ≤ length fs
 index-le [] y = zero-le
@@ -210,3 +68,163 @@ index-le (f ∷ fs) y = go (eqb (f .type) y) (index-le fs y)
 
 pub row-le : (y : ℕ) → rowOf y ≤ 16
 row-le y = omega (arith, index-le controlBlocks y)
+
+-- ---- eight idles, in each edition, and eight low power idles, in the newer one
+
+idle-block : (ed : Edition) → (Class.C ≡ classOf ed 1 0x1e) × (twoWords 15 0x07070707 15 0x07070707 ≡ decoded ed 1 0x1e)
+unfolding classOf decoded kindFor
+idle-block Old = (refl, refl)
+idle-block New = (refl, refl)
+
+low-block : (Class.LI ≡ classOf New 1 0x0c183060c183061e) × (twoWords 15 0x06060606 15 0x06060606 ≡ decoded New 1 0x0c183060c183061e)
+unfolding classOf decoded kindFor
+low-block = (refl, refl)
+
+module _ (ed : Edition) where
+  -- ---- the general row
+
+  module _ (r x : ℕ) where
+    -- all eight octets are bytes
+    Small : Type 0
+    Small =
+        (octetBy ed r x 0 < 256) × (octetBy ed r x 1 < 256) × (octetBy ed r x 2 < 256) × (octetBy ed r x 3 < 256) × (octetBy ed r x 4 < 256) × (octetBy ed r x 5 < 256) × (octetBy ed r x 6 < 256) × (octetBy ed r x 7 < 256)
+
+    small-below : Small → Below 256 (vectorOf ed (row r) x)
+    unfolding Small
+    small-below s =
+        (omega (arith, flags-lt (row r .fields) 0), (s .0, (s .1, (s .2, (s .3, (omega (arith, flags-lt (row r .fields) 4), (s .4, (s .5, (s .6, (s .7, tt))))))))))
+
+    below-small : Below 256 (vectorOf ed (row r) x) → Small
+    unfolding Small
+    below-small w = (w .1 .0, w .1 .1 .0, w .1 .1 .1 .0, w .1 .1 .1 .1 .0, w .1 .1 .1 .1 .1 .1 .0, w .1 .1 .1 .1 .1 .1 .1 .0, w .1 .1 .1 .1 .1 .1 .1 .1 .0, w .1 .1 .1 .1 .1 .1 .1 .1 .1 .0)
+
+  -- the answer of a row whose eight characters are valid
+  pub row-valid : (r x c0 d0 c1 d1 m n : ℕ) (c : Class)
+      → d0 ≡ lanesBy (octetBy ed r x 0) (octetBy ed r x 1) (octetBy ed r x 2) (octetBy ed r x 3)
+      → d1 ≡ lanesBy (octetBy ed r x 4) (octetBy ed r x 5) (octetBy ed r x 6) (octetBy ed r x 7)
+      → m ≡ overBy (octetBy ed r x 0) (octetBy ed r x 1) (octetBy ed r x 2) (octetBy ed r x 3)
+      → n ≡ overBy (octetBy ed r x 4) (octetBy ed r x 5) (octetBy ed r x 6) (octetBy ed r x 7)
+      → m + n ≡ 0 → c0 ≡ flagsAt (row r .fields) 0 → c1 ≡ flagsAt (row r .fields) 4 → c ≡ good (kindFor (row r) (twoWords c0 d0 c1 d1))
+      → (c ≡ classBy ed (row r) x) × (twoWords c0 d0 c1 d1 ≡ decodedBy ed (row r) x)
+  unfolding Small
+  row-valid r x c0 d0 c1 d1 m n c e0 e1 o0 o1 z f0 f1 q =
+      let p : Small r x = (a .0, a .1, a .2, a .3, b .0, b .1, b .2, b .3) in
+      let w = small-below r x p in
+      (q ∙ ap (λ (v : List ℕ). good (kindFor (row r) v)) words ∙ sym (class-good ed (row r) x w), words ∙ sym (when-valid ed (row r) x w .1))
+    where
+      a : (octetBy ed r x 0 < 256) × (octetBy ed r x 1 < 256) × (octetBy ed r x 2 < 256) × (octetBy ed r x 3 < 256)
+      a = over-small (octetBy ed r x 0) (octetBy ed r x 1) (octetBy ed r x 2) (octetBy ed r x 3) (sym o0 ∙ omega arith)
+
+      b : (octetBy ed r x 4 < 256) × (octetBy ed r x 5 < 256) × (octetBy ed r x 6 < 256) × (octetBy ed r x 7 < 256)
+      b = over-small (octetBy ed r x 4) (octetBy ed r x 5) (octetBy ed r x 6) (octetBy ed r x 7) (sym o1 ∙ omega arith)
+
+      words : twoWords c0 d0 c1 d1 ≡ vectorOf ed (row r) x
+      words =
+          ap₂ (λ (l l′ : ℕ). twoWords c0 l c1 l′) e0 e1
+          ∙ ap₂ _++_ (lanes-back c0 (octetBy ed r x 0) (octetBy ed r x 1) (octetBy ed r x 2) (octetBy ed r x 3) (a .0) (a .1) (a .2) (a .3))
+          (lanes-back c1 (octetBy ed r x 4) (octetBy ed r x 5) (octetBy ed r x 6) (octetBy ed r x 7) (b .0) (b .1) (b .2) (b .3))
+          ∙ ten f0 refl refl refl refl f1 refl refl refl refl
+
+  -- of a row of which one character is not valid
+  module _ (r x m n p q : ℕ) (inside : r < 16)
+      (o0 : m ≡ overBy (octetBy ed r x 0) (octetBy ed r x 1) (octetBy ed r x 2) (octetBy ed r x 3))
+      (o1 : n ≡ overBy (octetBy ed r x 4) (octetBy ed r x 5) (octetBy ed r x 6) (octetBy ed r x 7))
+      (b0 : p ≡ badBy (octetBy ed r x 0) (octetBy ed r x 1) (octetBy ed r x 2) (octetBy ed r x 3))
+      (b1 : q ≡ badBy (octetBy ed r x 4) (octetBy ed r x 5) (octetBy ed r x 6) (octetBy ed r x 7))
+      (z : m + n ≡ 0 → ⊥) where
+    not-small : Small r x → ⊥
+    unfolding Small
+    not-small s =
+        let a = o0 ∙ small-over (octetBy ed r x 0) (octetBy ed r x 1) (octetBy ed r x 2) (octetBy ed r x 3) (s .0) (s .1) (s .2) (s .3) in
+        let b = o1 ∙ small-over (octetBy ed r x 4) (octetBy ed r x 5) (octetBy ed r x 6) (octetBy ed r x 7) (s .4) (s .5) (s .6) (s .7) in
+        z (omega (arith, a, b))
+
+    error-is : errorVector ≡ decodedBy ed (row r) x
+    error-is = sym (when-not ed (row r) x (λ w. not-small (below-small r x w)) .1)
+
+    tells : (i : ℕ) → i < 8 → Tells (octetBy ed r x i)
+    tells = character-tells ed (row r) (row-sound r inside) x
+
+    -- none says that its control code is bad where none is counted
+    silent : p + q ≡ 0 → None 256 (vectorOf ed (row r) x)
+    unfolding Silent
+    silent e =
+        let a = bad-silent (octetBy ed r x 0) (octetBy ed r x 1) (octetBy ed r x 2) (octetBy ed r x 3) (sym b0 ∙ omega arith) in
+        let b = bad-silent (octetBy ed r x 4) (octetBy ed r x 5) (octetBy ed r x 6) (octetBy ed r x 7) (sym b1 ∙ omega arith) in
+        (flag 0, (a .0, (a .1, (a .2, (a .3, (flag 4, (b .0, (b .1, (b .2, (b .3, tt))))))))))
+      where
+        flag : (i : ℕ) → eqb 256 (flagsAt (row r .fields) i) ≡ false
+        flag i = ne-eqb 256 (flagsAt (row r .fields) i) (λ e. omega (arith, flags-lt (row r .fields) i))
+
+    counted : None 256 (vectorOf ed (row r) x) → p + q ≡ 0
+    unfolding Silent
+    counted w =
+        let a =
+        b0 ∙ silent-bad (octetBy ed r x 0) (octetBy ed r x 1) (octetBy ed r x 2) (octetBy ed r x 3) (tells 0 (lit< tt)) (tells 1 (lit< tt)) (tells 2 (lit< tt)) (tells 3 (lit< tt)) (w .1 .0, w .1 .1 .0, w .1 .1 .1 .0, w .1 .1 .1 .1 .0) in
+        let b =
+        b1 ∙ silent-bad (octetBy ed r x 4) (octetBy ed r x 5) (octetBy ed r x 6) (octetBy ed r x 7) (tells 4 (lit< tt)) (tells 5 (lit< tt)) (tells 6 (lit< tt)) (tells 7 (lit< tt)) (w .1 .1 .1 .1 .1 .1 .0, w .1 .1 .1 .1 .1 .1 .1 .0, w .1 .1 .1 .1 .1 .1 .1 .1 .0, w .1 .1 .1 .1 .1 .1 .1 .1 .1 .0) in
+        omega (arith, a, b)
+
+    pub row-set : p + q ≡ 0 → (Class.Bad SetCode ≡ classBy ed (row r) x) × (errorVector ≡ decodedBy ed (row r) x)
+    row-set e = (sym (class-set ed (row r) x (silent e) not-none), error-is)
+      where
+        not-none : None 512 (vectorOf ed (row r) x) → ⊥
+        not-none w = not-small (below-small r x (none-below (vectorOf ed (row r) x) (vector-tells ed (row r) (row-sound r inside) x) (silent e) w))
+
+    pub row-control : (p + q ≡ 0 → ⊥) → (Class.Bad ControlCode ≡ classBy ed (row r) x) × (errorVector ≡ decodedBy ed (row r) x)
+    row-control e = (sym (class-control ed (row r) x (λ w. e (counted w))), error-is)
+
+  -- ---- a block
+
+  -- eight data octets, straight from the payload
+  pub data-answer : (h x : ℕ) → h ≡ 2 → (Class.D ≡ classOf ed h x) × (twoWords 0 (x % 4294967296) 0 (x / 4294967296) ≡ decoded ed h x)
+  unfolding decoded
+  data-answer h x e =
+      subst (λ (h : ℕ). (Class.D ≡ classOf ed h x) × (twoWords 0 (x % 4294967296) 0 (x / 4294967296) ≡ decoded ed h x)) (sym e) (sym (class-data ed x), words)
+    where
+      words : twoWords 0 (x % 4294967296) 0 (x / 4294967296) ≡ decoded ed 2 x
+      words =
+          ten refl (omega arith) (omega arith) (omega arith) (omega arith) refl (omega arith) (omega arith) (omega arith) (omega arith)
+          ∙ sym (when-valid ed dataBlock x (data-below ed x) .1)
+
+  -- eight idles
+  pub idle-answer : (h x : ℕ) → h ≡ 1 → x ≡ 0x1e → (Class.C ≡ classOf ed h x) × (twoWords 15 0x07070707 15 0x07070707 ≡ decoded ed h x)
+  idle-answer h x e q =
+      subst₂ (λ (h x : ℕ). (Class.C ≡ classOf ed h x) × (twoWords 15 0x07070707 15 0x07070707 ≡ decoded ed h x)) (sym e) (sym q) (idle-block ed)
+
+  -- eight low power idles, in the edition that has them
+  pub low-answer : (h x : ℕ) → ed ≡ New → h ≡ 1 → x ≡ 0x0c183060c183061e → (Class.LI ≡ classOf ed h x) × (twoWords 15 0x06060606 15 0x06060606 ≡ decoded ed h x)
+  low-answer h x n e q =
+      subst (λ (ed : Edition). (Class.LI ≡ classOf ed h x) × (twoWords 15 0x06060606 15 0x06060606 ≡ decoded ed h x)) (sym n)
+      (subst₂ (λ (h x : ℕ). (Class.LI ≡ classOf New h x) × (twoWords 15 0x06060606 15 0x06060606 ≡ decoded New h x)) (sym e) (sym q) low-block)
+
+  -- a control block by the row of its type
+  pub row-answer : (h x r : ℕ) (c : Class) (v : List ℕ) → h ≡ 1 → r ≡ rowOf (x % 256) → r < 16
+      → (c ≡ classBy ed (row r) x) × (v ≡ decodedBy ed (row r) x) → (c ≡ classOf ed h x) × (v ≡ decoded ed h x)
+  unfolding decoded
+  row-answer h x r c v e q l w =
+      let f : row r ≡ formatOf h x = ap row q ∙ row-format 1 x ∙ ap (λ (n : ℕ). formatOf n x) (sym e) in (
+        w .0
+            ∙ ap (λ (n : ℕ). classBy ed (row n) x) q
+            ∙ sym (class-row ed x (subst (λ (n : ℕ). n < 16) q l))
+            ∙ ap (λ (n : ℕ). classOf ed n x) (sym e),
+        w .1 ∙ ap (λ (g : Format). decodedBy ed g x) f,
+      )
+
+  -- a type that is none, and a header that is neither
+  no-format : (h x : ℕ) → formatOf h x ≡ noFormat → errorVector ≡ decoded ed h x
+  unfolding decoded
+  no-format h x f = ap (λ (g : Format). decodedBy ed g x) (sym f)
+
+  pub no-type : (h x r : ℕ) → h ≡ 1 → r ≡ rowOf (x % 256) → 16 ≤ r → (Class.Bad BlockType ≡ classOf ed h x) × (errorVector ≡ decoded ed h x)
+  no-type h x r e q l = (
+    sym (class-no-type ed x (subst (λ (n : ℕ). 16 ≤ n) q l)) ∙ ap (λ (n : ℕ). classOf ed n x) (sym e),
+    no-format h x (ap (λ (n : ℕ). formatOf n x) e ∙ sym (row-format 1 x) ∙ ap row (sym q) ∙ row-none r l),
+  )
+
+  pub no-header : (h x : ℕ) → (h ≡ 2 → ⊥) → (h ≡ 1 → ⊥) → (Class.Bad Header ≡ classOf ed h x) × (errorVector ≡ decoded ed h x)
+  no-header h x n m = (
+    sym (class-no-header ed h x n m),
+    no-format h x
+        (ap₂ (λ (a b : Bool). cond a dataBlock (cond b (byType controlBlocks (x % 2 ^ 8)) noFormat)) (ne-eqb h 2 n) (ne-eqb h 1 m)),
+  )

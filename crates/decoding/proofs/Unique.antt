@@ -5,9 +5,11 @@ use Prim.Native.Nat.{ℕ, _/_, _%_, _^_, _<_}
 use native.Mathlib.Omega.{arith}
 use lib.ListN.{getD}
 use lib.Pow.{shr-shr}
+use Rattle.block.specs.declared.Edition.{Edition}
 use Rattle.block.specs.declared.Kind.{Kind}
 use Rattle.block.specs.declared.Class.{Class}
 use Rattle.block.specs.Block.{decoded, classOf, kindIn}
+use Rattle.tables.specs.Tables.{editionIn}
 use Rattle.decoding.specs.declared.Vector.{Vector}
 use Rattle.decoding.specs.declared.Decoded.{Decoded}
 use Rattle.decoding.specs.Vector.{vectorBytes}
@@ -45,9 +47,9 @@ vector-same v w a b c d e =
     high : v .d1 ≡ w .d1
     high = lanes-same (v .d1) (w .d1) b d (byte 6) (byte 7) (byte 8) (byte 9)
 
-pub decode-unique : (h x : ℕ) (r r′ : Decoded) → r .vector .d0 < 2 ^ 32 → r .vector .d1 < 2 ^ 32 → r′ .vector .d0 < 2 ^ 32 → r′ .vector .d1 < 2 ^ 32
-    → (r .class ≡ classOf h x) × (vectorBytes (r .vector) ≡ decoded h x) → (r′ .class ≡ classOf h x) × (vectorBytes (r′ .vector) ≡ decoded h x) → r ≡ r′
-decode-unique h x r r′ a b c d p q = λ i. record { class = class i; vector = vector i }
+pub decode-unique : (t : List ℕ) (h x : ℕ) (r r′ : Decoded) → r .vector .d0 < 2 ^ 32 → r .vector .d1 < 2 ^ 32 → r′ .vector .d0 < 2 ^ 32 → r′ .vector .d1 < 2 ^ 32
+    → (r .class ≡ classOf (editionIn t) h x) × (vectorBytes (r .vector) ≡ decoded (editionIn t) h x) → (r′ .class ≡ classOf (editionIn t) h x) × (vectorBytes (r′ .vector) ≡ decoded (editionIn t) h x) → r ≡ r′
+decode-unique t h x r r′ a b c d p q = λ i. record { class = class i; vector = vector i }
   where
     class : r .class ≡ r′ .class
     class = p .0 ∙ sym (q .0)
@@ -58,11 +60,11 @@ decode-unique h x r r′ a b c d p q = λ i. record { class = class i; vector = 
 pub bytes-of-unique : (v : Vector) (r r′ : List ℕ) → r ≡ vectorBytes v → r′ ≡ vectorBytes v → r ≡ r′
 bytes-of-unique v r r′ p q = p ∙ sym q
 
-pub decode-block-unique : (h x : ℕ) (c c′ : Class) (out out′ : List ℕ) → (c ≡ classOf h x) × (out ≡ decoded h x) → (c′ ≡ classOf h x) × (out′ ≡ decoded h x) → (c ≡ c′) × (out ≡ out′)
-decode-block-unique h x c c′ out out′ p q = (p .0 ∙ sym (q .0), p .1 ∙ sym (q .1))
+pub decode-block-unique : (ed : Edition) (h x : ℕ) (c c′ : Class) (out out′ : List ℕ) → (c ≡ classOf ed h x) × (out ≡ decoded ed h x) → (c′ ≡ classOf ed h x) × (out′ ≡ decoded ed h x) → (c ≡ c′) × (out ≡ out′)
+decode-block-unique ed h x c c′ out out′ p q = (p .0 ∙ sym (q .0), p .1 ∙ sym (q .1))
 
 pub kind-in-unique : (c : Class) (k k′ : Kind) → k ≡ kindIn c → k′ ≡ kindIn c → k ≡ k′
 kind-in-unique c k k′ p q = p ∙ sym q
 
-pub classify-unique : (h x : ℕ) (c c′ : Class) → c ≡ classOf h x → c′ ≡ classOf h x → c ≡ c′
-classify-unique h x c c′ p q = p ∙ sym q
+pub classify-unique : (ed : Edition) (h x : ℕ) (c c′ : Class) → c ≡ classOf ed h x → c′ ≡ classOf ed h x → c ≡ c′
+classify-unique ed h x c c′ p q = p ∙ sym q

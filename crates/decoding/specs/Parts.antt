@@ -1,11 +1,12 @@
 -- A reviewer can skip this file: what the private functions answer.
 use Prim.Native.Nat.{ℕ, _+_, _*_, _/_, _%_, _^_}
+use Rattle.block.specs.declared.Edition.{Edition}
 use Rattle.block.specs.Block.{octetAt}
 use Rattle.block.specs.Rows.{row}
 
 -- the octet of character p of a block of row r, not below 256 where its bits are not valid
-abbrev pub octetBy : ℕ → ℕ → ℕ → ℕ
-octetBy r x p = octetAt (row r .fields) (x / 2 ^ row r .lead) p
+abbrev pub octetBy : Edition → ℕ → ℕ → ℕ → ℕ
+octetBy ed r x p = octetAt ed (row r .fields) (x / 2 ^ row r .lead) p
 
 -- four octets as lanes, how much of them does not fit a byte, and how many say that a control code is bad (256, where 512 is an
 -- ordered set code)

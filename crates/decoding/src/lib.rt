@@ -3,10 +3,11 @@ ghost use mathlib.Core.Path.{_≡_};
 ghost use Prim.Native.Nat.{_+_, _<_, _≤_};
 ghost use Rattle.block.specs.Block.{errorVector, decodedBy, decoded, good, classBy, classOf, kindIn};
 ghost use Rattle.block.specs.Rows.{row};
-ghost use Rattle.tables.specs.Tables.{types, tables};
+ghost use Rattle.tables.specs.Tables.{types, editionIn, Lent};
 ghost use Rattle.decoding.specs.Vector.{vectorBytes};
 ghost use Rattle.decoding.specs.Parts.{octetBy, lanesBy, overBy, badBy};
 use block::Class;
+use block::Edition;
 use block::Kind;
 use block::Reason;
 
@@ -33,6 +34,7 @@ pub fn kind_in(c: Class) -> Kind
         Class::C => Kind::C,
         Class::S => Kind::S,
         Class::T => Kind::T,
+        Class::LI => Kind::LI,
         Class::Bad(_) => Kind::E,
     }
 }
@@ -47,6 +49,7 @@ fn good_class(k: Kind) -> Class
         Kind::S => Class::S,
         Kind::T => Class::T,
         Kind::E => Class::Bad(Reason::BlockType),
+        Kind::LI => Class::LI,
     }
 }
 
@@ -75,8 +78,8 @@ struct Half {
 
 // The octet of character p of a block of row r, not below 256 where its bits are not valid.
 fn character(t: &[u16; 3170], r: usize, p: usize, x: u64) -> u16
-    requires { ⌜ (r < 16) × (p < 8) × (now t ≡ tables) ⌝ }
-    ensures { λ z. ⌜ z ≡ octetBy r x p ⌝ }
+    requires { ⌜ (r < 16) × (p < 8) × Lent (now t) ⌝ }
+    ensures { λ z. ⌜ z ≡ octetBy (editionIn (now (t .entry))) r x p ⌝ }
 {
     let k = 8 * r + p;
     let shift = t[tables::SHIFT + k];
@@ -88,8 +91,8 @@ fn character(t: &[u16; 3170], r: usize, p: usize, x: u64) -> u16
 
 // Four characters from p on.
 fn four(t: &[u16; 3170], r: usize, p: usize, x: u64) -> Half
-    requires { ⌜ (r < 16) × (p + 3 < 8) × (now t ≡ tables) ⌝ }
-    ensures { λ z. ⌜ (z .lanes ≡ lanesBy (octetBy r x p) (octetBy r x (p + 1)) (octetBy r x (p + 2)) (octetBy r x (p + 3))) × (z .over ≡ overBy (octetBy r x p) (octetBy r x (p + 1)) (octetBy r x (p + 2)) (octetBy r x (p + 3))) × (z .bad ≡ badBy (octetBy r x p) (octetBy r x (p + 1)) (octetBy r x (p + 2)) (octetBy r x (p + 3))) × (z .over < 1024) × (z .bad ≤ 4) ⌝ }
+    requires { ⌜ (r < 16) × (p + 3 < 8) × Lent (now t) ⌝ }
+    ensures { λ z. ⌜ (z .lanes ≡ lanesBy (octetBy (editionIn (now (t .entry))) r x p) (octetBy (editionIn (now (t .entry))) r x (p + 1)) (octetBy (editionIn (now (t .entry))) r x (p + 2)) (octetBy (editionIn (now (t .entry))) r x (p + 3))) × (z .over ≡ overBy (octetBy (editionIn (now (t .entry))) r x p) (octetBy (editionIn (now (t .entry))) r x (p + 1)) (octetBy (editionIn (now (t .entry))) r x (p + 2)) (octetBy (editionIn (now (t .entry))) r x (p + 3))) × (z .bad ≡ badBy (octetBy (editionIn (now (t .entry))) r x p) (octetBy (editionIn (now (t .entry))) r x (p + 1)) (octetBy (editionIn (now (t .entry))) r x (p + 2)) (octetBy (editionIn (now (t .entry))) r x (p + 3))) × (z .over < 1024) × (z .bad ≤ 4) ⌝ }
 {
     let a = character(t, r, p, x);
     let b = character(t, r, p + 1, x);
@@ -107,8 +110,8 @@ fn four(t: &[u16; 3170], r: usize, p: usize, x: u64) -> Half
 
 // A block of row r.
 fn decode_row(t: &[u16; 3170], r: usize, x: u64) -> Decoded
-    requires { ⌜ (r < 16) × (now t ≡ tables) ⌝ }
-    ensures { λ z. ⌜ (z .class ≡ classBy (row r) x) × (vectorBytes (z .vector) ≡ decodedBy (row r) x) ⌝ }
+    requires { ⌜ (r < 16) × Lent (now t) ⌝ }
+    ensures { λ z. ⌜ (z .class ≡ classBy (editionIn (now (t .entry))) (row r) x) × (vectorBytes (z .vector) ≡ decodedBy (editionIn (now (t .entry))) (row r) x) ⌝ }
 {
     let a = four(t, r, 0, x);
     let b = four(t, r, 4, x);
@@ -116,7 +119,7 @@ fn decode_row(t: &[u16; 3170], r: usize, x: u64) -> Decoded
         let c0 = (t[tables::LOW + r] % 256) as u8;
         let c1 = (t[tables::HIGH + r] % 256) as u8;
         return Decoded {
-            class: good_class(tables::kind_at(t, r)),
+            class: good_class(tables::kind_of(t, r, c0, a.lanes, c1, b.lanes)),
             vector: Vector {
                 c0: c0,
                 d0: a.lanes,
@@ -133,8 +136,8 @@ fn decode_row(t: &[u16; 3170], r: usize, x: u64) -> Decoded
 
 // A block with this header (its two bits as a number, block bit 0 the lower) and payload. The tables are those of the crate tables.
 pub fn decode(t: &[u16; 3170], y: &[u8; 256], header: u64, payload: u64) -> Decoded
-    requires { ⌜ (now t ≡ tables) × (now y ≡ types) ⌝ }
-    ensures { λ r. ⌜ (r .class ≡ classOf header payload) × (vectorBytes (r .vector) ≡ decoded header payload) ⌝ }
+    requires { ⌜ Lent (now t) × (now y ≡ types) ⌝ }
+    ensures { λ r. ⌜ (r .class ≡ classOf (editionIn (now (t .entry))) header payload) × (vectorBytes (r .vector) ≡ decoded (editionIn (now (t .entry))) header payload) ⌝ }
 {
     if header == 2 {
         return Decoded {
@@ -162,6 +165,20 @@ pub fn decode(t: &[u16; 3170], y: &[u8; 256], header: u64, payload: u64) -> Deco
         }
         let r = y[(payload % 256) as usize] as usize;
         if r < 16 {
+            // eight low power idles, if the edition has them
+            if payload == 0x0c183060c183061e {
+                if t[tables::LOW_POWER] < 256 {
+                    return Decoded {
+                        class: Class::LI,
+                        vector: Vector {
+                            c0: 15,
+                            d0: 0x06060606,
+                            c1: 15,
+                            d1: 0x06060606,
+                        },
+                    };
+                }
+            }
             return decode_row(t, r, payload);
         }
         return bad(Reason::BlockType);
@@ -188,10 +205,10 @@ pub fn bytes_of(v: Vector) -> [u8; 10]
 }
 
 // The class of a block; its vector, the error vector where it is bad, goes into out.
-pub fn decode_block(header: u8, payload: u64, out: &mut [u8; 10]) -> Class
-    ensures { λ c. ⌜ (c ≡ classOf header payload) × (now (out .exit) ≡ decoded header payload) ⌝ }
+pub fn decode_block(edition: Edition, header: u8, payload: u64, out: &mut [u8; 10]) -> Class
+    ensures { λ c. ⌜ (c ≡ classOf edition header payload) × (now (out .exit) ≡ decoded edition header payload) ⌝ }
 {
-    let t = tables::block_tables();
+    let t = tables::block_tables(edition);
     let y = tables::type_table();
     let d = decode(&t, &y, header as u64, payload);
     let v = d.vector;
@@ -200,9 +217,9 @@ pub fn decode_block(header: u8, payload: u64, out: &mut [u8; 10]) -> Class
 }
 
 // The class of a block.
-pub fn classify(header: u8, payload: u64) -> Class
-    ensures { λ c. ⌜ c ≡ classOf header payload ⌝ }
+pub fn classify(edition: Edition, header: u8, payload: u64) -> Class
+    ensures { λ c. ⌜ c ≡ classOf edition header payload ⌝ }
 {
     let mut out = [0u8; 10];
-    decode_block(header, payload, &mut out)
+    decode_block(edition, header, payload, &mut out)
 }

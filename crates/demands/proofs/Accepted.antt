@@ -17,9 +17,9 @@ use Rattle.demands.proofs.Sent.{Vectors}
 
 -- ---- the checks that have passed
 
-module _ (bytes : List ℕ) (start room : ℕ) (ok : accepts bytes start room) where
-  -- the five of them, in order
-  checked : (ltb 1000000 (length bytes) ≡ false) × (not (eqb (length bytes % 40) 0) ≡ false) × (leb (2 ^ 58) start ≡ false)
+module _ (edition : ℕ) (bytes : List ℕ) (start room : ℕ) (ok : accepts edition bytes start room) where
+  -- the six of them, in order
+  checked : (ltb 1 edition ≡ false) × (ltb 1000000 (length bytes) ≡ false) × (not (eqb (length bytes % 40) 0) ≡ false) × (leb (2 ^ 58) start ≡ false)
       × (ltb room (33 * (length bytes / 40)) ≡ false) × (ltb (highControl bytes) (length bytes) ≡ false)
   unfolding sendChecks
   checked =
@@ -28,19 +28,24 @@ module _ (bytes : List ℕ) (start room : ℕ) (ok : accepts bytes start room) w
       let c = passed _ _ (b .1) in
       let d = passed _ _ (c .1) in
       let e = passed _ _ (d .1) in
-      (a .0, b .0, c .0, d .0, e .0)
+      let f = passed _ _ (e .1) in
+      (a .0, b .0, c .0, d .0, e .0, f .0)
+
+  -- the edition is known
+  pub known : edition ≤ 1
+  known = ltb-false 1 edition (checked .0)
 
   -- at most 1,000,000 bytes
   pub not-long : length bytes ≤ 1000000
-  not-long = ltb-false 1000000 (length bytes) (checked .0)
+  not-long = ltb-false 1000000 (length bytes) (checked .1)
 
   -- whole groups of four vectors
   pub whole-groups : length bytes % 40 ≡ 0
-  whole-groups = eqb-true (length bytes % 40) 0 (not-false (eqb (length bytes % 40) 0) (checked .1))
+  whole-groups = eqb-true (length bytes % 40) 0 (not-false (eqb (length bytes % 40) 0) (checked .2))
 
   -- the place of the first high control byte is past the list
   none-high : length bytes ≤ highControl bytes
-  none-high = ltb-false (highControl bytes) (length bytes) (checked .4)
+  none-high = ltb-false (highControl bytes) (length bytes) (checked .5)
 
 -- ---- no control byte above 15
 
@@ -99,14 +104,14 @@ vectors-in (suc k) bytes h low = (
       rw (getD-drop 10 bytes (5 * i) 0, e) (low (2 + i) (omega arith))),
 )
 
-module _ (bytes : List ℕ) (start room : ℕ) (ok : accepts bytes start room) where
+module _ (edition : ℕ) (bytes : List ℕ) (start room : ℕ) (ok : accepts edition bytes start room) where
   -- whole vectors, four to a group
   pub ten-each : length bytes ≡ 10 * (length bytes / 10)
-  ten-each = omega (arith, whole-groups bytes start room ok)
+  ten-each = omega (arith, whole-groups edition bytes start room ok)
 
   -- four vectors to a group
   pub four-each : length bytes / 10 ≡ 4 * (length bytes / 40)
-  four-each = omega (arith, whole-groups bytes start room ok)
+  four-each = omega (arith, whole-groups edition bytes start room ok)
 
   -- each vector has ten bytes, and control bytes below 16
   pub vectors-well : Vectors (vectorsOf bytes)
@@ -115,4 +120,4 @@ module _ (bytes : List ℕ) (start room : ℕ) (ok : accepts bytes start room) w
       vectors-in (length bytes / 10) bytes (omega (arith, ten-each))
       (λ i l.
       let e : 0 + 5 * i ≡ 5 * i = omega arith in
-      rw (← e) (low-controls (length bytes / 5) 0 bytes (omega (arith, none-high bytes start room ok)) i (omega arith)))
+      rw (← e) (low-controls (length bytes / 5) 0 bytes (omega (arith, none-high edition bytes start room ok)) i (omega arith)))

@@ -11,6 +11,7 @@ use Rattle.bits.specs.Bits.{streamBit}
 use Rattle.bits.proofs.Laws.{length-cut}
 use Rattle.scrambler.specs.Scrambler.{mirror}
 use Rattle.refusals.specs.First.{Verdict, accepted, refused, first, byVerdict}
+use Rattle.block.specs.Block.{editionOf}
 use Rattle.sending.specs.Send as Send
 use Rattle.sending.specs.Send.{sentLine, lineWords, blocksFor}
 use Rattle.sending.specs.Answer as Sending
@@ -25,24 +26,24 @@ use Rattle.receiving.specs.declared.Received.{Received}
 use Rattle.receiving.specs.declared.Received.the-variants as Received
 use Rattle.demands.specs.Words.{accepts, Unbroken}
 use Rattle.demands.specs.Demand2.{Returnable, faults, Demand2OfCalls}
-use Rattle.demands.proofs.Accepted.{not-long}
+use Rattle.demands.proofs.Accepted.{known, not-long}
 use Rattle.demands.proofs.Demand2.{demand-2}
 
 -- `send` answers success only where it accepts
-done-accepts : (bytes : List ℕ) (start room : ℕ) (s : Sending) → Sending.answerOf (Sent.Done s) ≡ Sending.sendAnswer bytes start room → accepts bytes start room
+done-accepts : (edition : ℕ) (bytes : List ℕ) (start room : ℕ) (s : Sending) → Sending.answerOf (Sent.Done s) ≡ Sending.sendAnswer edition bytes start room → accepts edition bytes start room
 unfolding Sending.sendAnswer
-done-accepts bytes start room s e = go (first (Sending.sendChecks bytes start room)) refl e
+done-accepts edition bytes start room s e = go (first (Sending.sendChecks edition bytes start room)) refl e
   where
-    go : (v : Verdict) → first (Sending.sendChecks bytes start room) ≡ v
-        → Sending.sent (s .state) (s .diagram) (s .replaced) ≡ byVerdict v (Sending.sentFor bytes start) Sending.refused
-        → first (Sending.sendChecks bytes start room) ≡ accepted
+    go : (v : Verdict) → first (Sending.sendChecks edition bytes start room) ≡ v
+        → Sending.sent (s .state) (s .diagram) (s .replaced) ≡ byVerdict v (Sending.sentFor (editionOf edition) bytes start) Sending.refused
+        → first (Sending.sendChecks edition bytes start room) ≡ accepted
     go accepted q e = q
     go (refused n p) q e = absurd (let z : _≡_ {A = ℕ} 0 1 = cc in omega arith)
 
 -- 33 line bytes for each group
-length-line : (bytes : List ℕ) (start : ℕ) → length (sentLine bytes start) ≡ 33 * (length bytes / 40)
+length-line : (edition : ℕ) (bytes : List ℕ) (start : ℕ) → length (sentLine (editionOf edition) bytes start) ≡ 33 * (length bytes / 40)
 unfolding sentLine
-length-line bytes start = length-cut 8 (33 * (length bytes / 40)) (streamBit 66 (lineWords (mirror start) (blocksFor bytes)))
+length-line edition bytes start = length-cut 8 (33 * (length bytes / 40)) (streamBit 66 (lineWords (mirror start) (blocksFor (editionOf edition) bytes)))
 
 -- an answer with the document's values is the function's answer with these values
 received-is : (r : Received) (s : Summary) → Receiving.answerOf r ≡ Receiving.received s → r ≡ Received.Done s
@@ -51,47 +52,48 @@ received-is (Received.Done x) s e =
     ap Received.Done same
 received-is (Received.Refused why place) s e = absurd (let z : _≡_ {A = ℕ} 0 1 = cc in omega arith)
 
-module _ (bytes : List ℕ) (start : ℕ) (room room′ : List ℕ) (s : Sending) (sends : Sends bytes start room (Sent.Done s) room′)
-    (list : Returnable (Send.vectorsOf bytes)) where
+module _ (edition : ℕ) (bytes : List ℕ) (start : ℕ) (room room′ : List ℕ) (s : Sending) (sends : Sends edition bytes start room (Sent.Done s) room′)
+    (list : Returnable (editionOf edition) (Send.vectorsOf bytes)) where
   -- sending accepted
-  ok : accepts bytes start (length room)
-  ok = done-accepts bytes start (length room) s (sends .0)
+  ok : accepts edition bytes start (length room)
+  ok = done-accepts edition bytes start (length room) s (sends .0)
 
   -- the line stands at the start of the room
-  line-stands : take (33 * (length bytes / 40)) room′ ≡ sentLine bytes start
+  line-stands : take (33 * (length bytes / 40)) room′ ≡ sentLine (editionOf edition) bytes start
   unfolding Sending.sendRoom
   line-stands =
       ap (take (33 * (length bytes / 40)))
       (sends .1
-      ∙ ap (λ (v : Verdict). byVerdict v (sentLine bytes start ++ drop (length (sentLine bytes start)) room) (λ number place. room)) ok)
-      ∙ take-at (sentLine bytes start) (drop (length (sentLine bytes start)) room) (33 * (length bytes / 40)) (length-line bytes start)
+      ∙ ap (λ (v : Verdict). byVerdict v (sentLine (editionOf edition) bytes start ++ drop (length (sentLine (editionOf edition) bytes start)) room) (λ number place. room)) ok)
+      ∙ take-at (sentLine (editionOf edition) bytes start) (drop (length (sentLine (editionOf edition) bytes start)) room) (33 * (length bytes / 40)) (length-line edition bytes start)
 
-  module _ (out out′ : List ℕ) (r : Received) (receives : Receives (take (33 * (length bytes / 40)) room′) out r out′) (enough : length bytes ≤ length out) where
+  module _ (out out′ : List ℕ) (r : Received) (receives : Receives edition (take (33 * (length bytes / 40)) room′) out r out′) (enough : length bytes ≤ length out) where
     -- so what was received is the line
-    receives-line : Receives (sentLine bytes start) out r out′
-    receives-line = subst (λ (line : List ℕ). Receives line out r out′) line-stands receives
+    receives-line : Receives edition (sentLine (editionOf edition) bytes start) out r out′
+    receives-line = subst (λ (line : List ℕ). Receives edition line out r out′) line-stands receives
 
     -- neither refusal of receiving applies
-    received-too : first (Receiving.receiveChecks (length (sentLine bytes start)) (length out)) ≡ accepted
+    received-too : first (Receiving.receiveChecks edition (length (sentLine (editionOf edition) bytes start)) (length out)) ≡ accepted
     unfolding first Receiving.receiveChecks
     received-too =
         rw (
-          length-line bytes start,
-          le-ltb 825000 (33 * (length bytes / 40)) (omega (arith, not-long bytes start (length room) ok)),
+          le-ltb 1 edition (known edition bytes start (length room) ok),
+          length-line edition bytes start,
+          le-ltb 825000 (33 * (length bytes / 40)) (omega (arith, not-long edition bytes start (length room) ok)),
           le-ltb (length out) (10 * (8 * (33 * (length bytes / 40)) / 66)) (omega (arith, enough)),
         )
 
     -- the answer
-    answer-is : r ≡ Received.Done (Receiving.summaryOf (sentLine bytes start))
+    answer-is : r ≡ Received.Done (Receiving.summaryOf (editionOf edition) (sentLine (editionOf edition) bytes start))
     unfolding Receiving.receiveAnswer
     answer-is =
-        received-is r (Receiving.summaryOf (sentLine bytes start))
+        received-is r (Receiving.summaryOf (editionOf edition) (sentLine (editionOf edition) bytes start))
         (receives-line .0
-        ∙ ap (λ (v : Verdict). byVerdict v (Receiving.received (Receiving.summaryOf (sentLine bytes start))) Receiving.refused) received-too)
+        ∙ ap (λ (v : Verdict). byVerdict v (Receiving.received (Receiving.summaryOf (editionOf edition) (sentLine (editionOf edition) bytes start))) Receiving.refused) received-too)
 
     -- its values
-    values-are : Unbroken (length (Send.vectorsOf bytes)) (Receiving.summaryOf (sentLine bytes start))
-    values-are = demand-2 bytes start (length room) ok list .summary
+    values-are : Unbroken (length (Send.vectorsOf bytes)) (Receiving.summaryOf (editionOf edition) (sentLine (editionOf edition) bytes start))
+    values-are = demand-2 edition bytes start (length room) ok list .summary
 
     -- 64 vectors and more
     many : 640 ≤ length bytes
@@ -109,13 +111,13 @@ module _ (bytes : List ℕ) (start : ℕ) (room room′ : List ℕ) (s : Sending
         receives-line .1
         ∙ ap
         (λ (v : Verdict). byVerdict v
-        (Receive.receivedVectors (sentLine bytes start) ++ drop (length (Receive.receivedVectors (sentLine bytes start))) out)
+        (Receive.receivedVectors (editionOf edition) (sentLine (editionOf edition) bytes start) ++ drop (length (Receive.receivedVectors (editionOf edition) (sentLine (editionOf edition) bytes start))) out)
         (λ number place. out))
         received-too
-        ∙ ap (λ (xs : List ℕ). xs ++ drop (length xs) out) (demand-2 bytes start (length room) ok list .octets)
+        ∙ ap (λ (xs : List ℕ). xs ++ drop (length xs) out) (demand-2 edition bytes start (length room) ok list .octets)
         ∙ ap (λ (n : ℕ). flatten faults ++ drop 630 bytes ++ drop n out) length-octets
 
 -- demand 2 of the functions
 pub demand-2-of-calls : Demand2OfCalls
-demand-2-of-calls bytes start room room′ s sends list out out′ r receives enough =
-    (answer-is bytes start room room′ s sends list out out′ r receives enough, values-are bytes start room room′ s sends list out out′ r receives enough, room-is bytes start room room′ s sends list out out′ r receives enough)
+demand-2-of-calls edition bytes start room room′ s sends list out out′ r receives enough =
+    (answer-is edition bytes start room room′ s sends list out out′ r receives enough, values-are edition bytes start room room′ s sends list out out′ r receives enough, room-is edition bytes start room room′ s sends list out out′ r receives enough)

@@ -10,7 +10,7 @@ use lib.ListN.{length, drop}
 use borrow.Author.Tests.{leb-true, leb-false}
 use Rattle.refusals.specs.First.{Check, Verdict, accepted, refused, first, byVerdict}
 use Rattle.refusals.proofs.Laws.{passed}
-use Rattle.block.specs.Block.{encodeAnswer}
+use Rattle.block.specs.Block.{editionOf, encodeAnswer}
 use Rattle.sending.specs.Answer as Sending
 use Rattle.receiving.specs.Receive.{receivedVectors}
 use Rattle.receiving.specs.Answer as Receiving
@@ -100,27 +100,27 @@ with-room {A} cs answer success refusal after written before e f =
 -- sending
 pub demand-1-of-send : Demand1OfSend
 unfolding Sending.sendAnswer Sending.sendRoom
-demand-1-of-send bytes start room r room′ p = with-room (Sending.sendChecks bytes start (length room)) _ _ _ _ _ _ (p .0) (p .1)
+demand-1-of-send edition bytes start room r room′ p = with-room (Sending.sendChecks edition bytes start (length room)) _ _ _ _ _ _ (p .0) (p .1)
 
 -- receiving
 pub demand-1-of-receive : Demand1OfReceive
 unfolding Receiving.receiveAnswer Receiving.receiveRoom
-demand-1-of-receive line room r room′ p = with-room (Receiving.receiveChecks (length line) (length room)) _ _ _ _ _ _ (p .0) (p .1)
+demand-1-of-receive edition line room r room′ p = with-room (Receiving.receiveChecks edition (length line) (length room)) _ _ _ _ _ _ (p .0) (p .1)
 
 -- receiving with a lent record of counters
 pub demand-1-of-receive-counting : Demand1OfReceiveCounting
 unfolding Receiving.receiveAnswer Receiving.receiveRoom
-demand-1-of-receive-counting line room c r room′ c′ p = outcome checks _ _ _ (by (first checks) (p .0 .0) (p .0 .1) (p .1))
+demand-1-of-receive-counting edition line room c r room′ c′ p = outcome checks _ _ _ (by (first checks) (p .0 .0) (p .0 .1) (p .1))
   where
     checks : List Check
-    checks = Receiving.receiveChecks (length line) (length room)
+    checks = Receiving.receiveChecks edition (length line) (length room)
 
-    by : (v : Verdict) → Receiving.answerOf r ≡ byVerdict v (Receiving.received (Receiving.summaryOf line)) Receiving.refused
-        → room′ ≡ byVerdict v (receivedVectors line ++ drop (length (receivedVectors line)) room) (λ number place. room)
-        → c′ ≡ countersAfter c (byVerdict v (Receiving.received (Receiving.summaryOf line)) Receiving.refused)
+    by : (v : Verdict) → Receiving.answerOf r ≡ byVerdict v (Receiving.received (Receiving.summaryOf (editionOf edition) line)) Receiving.refused
+        → room′ ≡ byVerdict v (receivedVectors (editionOf edition) line ++ drop (length (receivedVectors (editionOf edition) line)) room) (λ number place. room)
+        → c′ ≡ countersAfter c (byVerdict v (Receiving.received (Receiving.summaryOf (editionOf edition) line)) Receiving.refused)
         → _≡_ {A = Receiving.ReceiveAnswer × List ℕ × Counters} (Receiving.answerOf r, room′, c′)
         (byVerdict v
-        (Receiving.received (Receiving.summaryOf line), receivedVectors line ++ drop (length (receivedVectors line)) room, updated c (Receiving.summaryOf line .counts) (Receiving.summaryOf line .handed))
+        (Receiving.received (Receiving.summaryOf (editionOf edition) line), receivedVectors (editionOf edition) line ++ drop (length (receivedVectors (editionOf edition) line)) room, updated c (Receiving.summaryOf (editionOf edition) line .counts) (Receiving.summaryOf (editionOf edition) line .handed))
         (λ number place. (Receiving.refused number place, room, c)))
     by accepted e f g = λ i. (e i, f i, g i)
     by (refused n q) e f g = λ i. (e i, f i, g i)
@@ -156,12 +156,12 @@ of-record {A} kind file place room came room′ f g e h = go (leb (length file) 
 -- sending the vectors of a record
 pub demand-1-of-send-record : Demand1OfSendRecord
 demand-1-of-send-record file place start room r room′ p =
-    of-record 1 file place room (Captures.sentOf r) room′ (λ vectors. Sending.sendAnswer vectors start (length room)) (λ vectors. Sending.sendRoom vectors start room) (p .0) (p .1)
+    of-record 1 file place room (Captures.sentOf r) room′ (λ vectors. Sending.sendAnswer 0 vectors start (length room)) (λ vectors. Sending.sendRoom 0 vectors start room) (p .0) (p .1)
 
 -- receiving the line of a record
 pub demand-1-of-receive-record : Demand1OfReceiveRecord
 demand-1-of-receive-record file place room r room′ p =
-    of-record 2 file place room (Captures.receivedOf r) room′ (λ line. Receiving.receiveAnswer line (length room)) (λ line. Receiving.receiveRoom line room) (p .0) (p .1)
+    of-record 2 file place room (Captures.receivedOf r) room′ (λ line. Receiving.receiveAnswer 0 line (length room)) (λ line. Receiving.receiveRoom 0 line room) (p .0) (p .1)
 
 -- reading a record
 pub demand-1-of-read : Demand1OfRead
@@ -181,4 +181,4 @@ demand-1-of-read file place r e = go (leb (length file) place) refl e
 -- encoding one vector
 pub demand-1-of-encode : Demand1OfEncode
 unfolding encodeAnswer
-demand-1-of-encode vector answer e = outcome _ _ _ _ e
+demand-1-of-encode ed vector answer e = outcome _ _ _ _ e

@@ -8,6 +8,7 @@ use Rattle.scrambler.specs.Scrambler.{scrambled, historyAfter, descrambled, lin
 use Rattle.scrambler.proofs.Laws.{scrambled-lt, descrambled-scrambled, line-scrambled, lineAfter-forget}
 use Rattle.line.specs.declared.Block.{Block}
 use Rattle.line.specs.Word.{word}
+use Rattle.block.specs.declared.Edition.{Edition}
 use Rattle.block.specs.Block.{kindOf, decoded, kindIn}
 use Rattle.sending.specs.Send.{scrambledBlock, lineWords}
 use Rattle.receiving.specs.Machine.{Tested, validOf, linkOf, testedOf}
@@ -24,14 +25,14 @@ descrambledBlocks h [] = []
 descrambledBlocks h (b ∷ bs) = record { header = b .header; payload = descrambled (b .payload) h } ∷ descrambledBlocks (lineAfter (b .payload) h) bs
 
 -- each tested block has the kind and the vector of the block at its place
-abbrev pub Reads : List Block → List Tested → Type 0
-Reads [] [] = Unit
-Reads [] (t ∷ ts) = ⊥
-Reads (b ∷ bs) [] = ⊥
-Reads (b ∷ bs) (t ∷ ts) = (kindIn (t .class) ≡ kindOf (b .header) (b .payload)) × (t .vector ≡ decoded (b .header) (b .payload)) × Reads bs ts
+abbrev pub Reads : Edition → List Block → List Tested → Type 0
+Reads ed [] [] = Unit
+Reads ed [] (t ∷ ts) = ⊥
+Reads ed (b ∷ bs) [] = ⊥
+Reads ed (b ∷ bs) (t ∷ ts) = (kindIn (t .class) ≡ kindOf ed (b .header) (b .payload)) × (t .vector ≡ decoded ed (b .header) (b .payload)) × Reads ed bs ts
 
 -- the tested blocks are those of the line, descrambled
-pub reads : (l : Link) (bs : List Block) → Reads (descrambledBlocks (l .history) bs) (testedAll l bs)
+pub reads : (l : Link) (bs : List Block) → Reads (l .edition) (descrambledBlocks (l .history) bs) (testedAll l bs)
 unfolding descrambledBlocks testedAll testedOf linkOf
 reads l [] = tt
 reads l (b ∷ bs) = (kind-tested l (b .header) (b .payload), refl, reads (linkOf l (b .header) (b .payload)) bs)

@@ -6,6 +6,7 @@ use lib.ListN.{length, length-map}
 use Rattle.bits.specs.Bits.{streamBit, cut}
 use Rattle.line.specs.declared.Block.{Block}
 use Rattle.line.specs.Word.{word}
+use Rattle.block.specs.declared.Edition.{Edition}
 use Rattle.diagrams.specs.declared.State.{State}
 use Rattle.diagrams.specs.declared.State.the-variants.{Init}
 use Rattle.receiving.specs.Machine.{Tested, Run, run, at, linkFresh}
@@ -22,36 +23,36 @@ unfolding answers judge
 length-answers s [] = refl
 length-answers s (t ∷ ts) = ap suc (length-answers _ ts)
 
-module _ (bs : List Block) (groups : ℕ) (fits : AllFit bs) (four : length bs ≡ 4 * groups)
+module _ (ed : Edition) (bs : List Block) (groups : ℕ) (fits : AllFit bs) (four : length bs ≡ 4 * groups)
     (first : FirstValid 64 (valids bs)) (few : invalids (valids bs) < 16) where
   -- four blocks in 33 bytes
   abbrev line : List ℕ
   line = cut 8 (streamBit 66 (map word bs)) (33 * groups)
 
   -- the receiver locks with block 63
-  locks : Locks 63 linkFresh bs
-  locks = lock-by-64 bs first few
+  locks : Locks 63 (linkFresh ed) bs
+  locks = lock-by-64 ed bs first few
 
   -- each block is tested at its own place
-  pub fresh-run : runOf line ≡ record { tested = testedAll linkFresh bs; end = at (linkAfter linkFresh bs) }
+  pub fresh-run : runOf ed line ≡ record { tested = testedAll (linkFresh ed) bs; end = at (linkAfter (linkFresh ed) bs) }
   unfolding runOf
   fresh-run =
-      ap (run (at linkFresh)) (line-bits (map word bs) groups (length-map bs word ∙ four))
-      ∙ run-words linkFresh bs fits (locks .steady)
+      ap (run (at (linkFresh ed))) (line-bits (map word bs) groups (length-map bs word ∙ four))
+      ∙ run-words (linkFresh ed) bs fits (locks .steady)
 
   -- its vectors are those of these blocks
-  pub fresh-vectors : vectorsOf line ≡ answers Init (testedAll linkFresh bs)
+  pub fresh-vectors : vectorsOf ed line ≡ answers Init (testedAll (linkFresh ed) bs)
   unfolding vectorsOf
   fresh-vectors = rw fresh-run
 
   -- as many are tested as there are blocks, with no slip, and the receiver ends locked and not high
-  pub fresh-summary : Unbroken (length bs) (summaryOf line)
+  pub fresh-summary : Unbroken (length bs) (summaryOf ed line)
   unfolding summaryOf countsOf
   fresh-summary =
       record {
-        tested = rw (fresh-run, length-tested linkFresh bs);
-        slips = rw (fresh-run, slips-none linkFresh bs (locks .steady));
+        tested = rw (fresh-run, length-tested (linkFresh ed) bs);
+        slips = rw (fresh-run, slips-none (linkFresh ed) bs (locks .steady));
         locked = ap (λ (r : Run). r .end .link .lock .locked) fresh-run ∙ locks .locked;
         high = ap (λ (r : Run). r .end .link .rate .high) fresh-run ∙ locks .calm;
-        vectors = rw (fresh-vectors, length-answers Init (testedAll linkFresh bs), length-tested linkFresh bs);
+        vectors = rw (fresh-vectors, length-answers Init (testedAll (linkFresh ed) bs), length-tested (linkFresh ed) bs);
       }

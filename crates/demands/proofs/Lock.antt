@@ -10,6 +10,7 @@ use lib.Seq.{getD-take, getD-drop, length-take-le}
 use borrow.Author.Tests.{lt-leb, le-leb}
 use Rattle.bits.proofs.Laws.{by-lt}
 use Rattle.line.specs.declared.Block.{Block}
+use Rattle.block.specs.declared.Edition.{Edition}
 use Rattle.diagrams.specs.Lock.{slipsOf, lockOf, countedOf, invalidOf}
 use Rattle.diagrams.specs.Rate.{rateFresh, rateOf, windowOf}
 use Rattle.diagrams.specs.declared.Lock.{Lock}
@@ -217,8 +218,8 @@ gets j (suc i) l (b ∷ bs) e c f m =
 
 -- A fresh receiver over blocks of which the first 64 headers are valid and fewer than 16 are invalid in all: no slip on the way;
 -- not locked before block 63, locked from block 63 on, and never high.
-pub lock-by-64 : (bs : List Block) → FirstValid 64 (valids bs) → invalids (valids bs) < 16 → Locks 63 linkFresh bs
-lock-by-64 bs f m = gets 0 63 linkFresh bs (omega arith) (record { lock = refl; rate = refl }) f m
+pub lock-by-64 : (ed : Edition) (bs : List Block) → FirstValid 64 (valids bs) → invalids (valids bs) < 16 → Locks 63 (linkFresh ed) bs
+lock-by-64 ed bs f m = gets 0 63 (linkFresh ed) bs (omega arith) (record { lock = refl; rate = refl }) f m
 
 -- ---- the same at one block
 

@@ -11,13 +11,14 @@ use borrow.Author.Tests.{ne-eqb}
 use Rattle.diagrams.proofs.Laws.{error-any}
 use Rattle.bits.specs.Bits.{bit}
 use Rattle.line.specs.declared.Block.{Block}
+use Rattle.block.specs.declared.Edition.{Edition}
 use Rattle.block.specs.Block.{Carrier, block, none, carrier, vectorKind, kindOf, decoded}
 use Rattle.block.specs.declared.Kind.the-variants.{E}
 use Rattle.block.proofs.Sending.{carrier-header, carrier-fits, round-trip}
 use Rattle.diagrams.specs.Diagram.{transmitOf, diagramOf, afterIdle, afterData, afterError}
 use Rattle.diagrams.specs.Lock.{invalidOf}
 use Rattle.diagrams.specs.declared.State.{State}
-use Rattle.diagrams.specs.declared.State.the-variants.{Init, Control, Data, Terminate, Error}
+use Rattle.diagrams.specs.declared.State.the-variants.{Init, Control, Data, Terminate, Error, LowPower}
 use Rattle.sending.specs.Send.{errorBlock, ownBlock, blockIn, sentBlocks, replacedIn, replaced}
 use Rattle.receiving.specs.Machine.{Tested, validOf}
 use Rattle.demands.specs.Words.{isError, legalFrom}
@@ -45,46 +46,6 @@ unfolding validOf bit
 valid-header h (inl e) = (omega arith, ap validOf e)
 valid-header h (inr e) = (omega arith, ap validOf e)
 
--- a vector's own block
-own-sound : (v : List ℕ) → Sound (ownBlock (carrier v))
-own-sound v = go (carrier v) refl
-  where
-    go : (c : Carrier) → carrier v ≡ c → Sound (ownBlock c)
-    go (block k h x) e = let w = valid-header h (carrier-header v k h x e) in ((w .0, carrier-fits v k h x e), w .1)
-    go none e = error-sound
-
--- the block sent in a state
-sent-sound : (s : State) (v : List ℕ) → Sound (blockIn s v)
-unfolding blockIn
-sent-sound Init v = own-sound v
-sent-sound Control v = own-sound v
-sent-sound Data v = own-sound v
-sent-sound Terminate v = own-sound v
-sent-sound Error v = error-sound
-
--- ---- a list of blocks
-
--- every block fits
-pub sent-fit : (s : State) (vs : List (List ℕ)) → AllFit (sentBlocks s vs)
-unfolding sentBlocks
-sent-fit s [] = tt
-sent-fit s (v ∷ vs) = (sent-sound (transmitOf s (vectorKind v)) v .0, sent-fit (transmitOf s (vectorKind v)) vs)
-
--- no header is invalid
-pub sent-valid : (s : State) (vs : List (List ℕ)) → invalids (valids (sentBlocks s vs)) ≡ 0
-unfolding sentBlocks valids invalids invalidOf
-sent-valid s [] = refl
-sent-valid s (v ∷ vs) = rw (sent-sound (transmitOf s (vectorKind v)) v .1) (omega (arith, sent-valid (transmitOf s (vectorKind v)) vs))
-
--- the first n headers are valid
-pub sent-first : (n : ℕ) (s : State) (vs : List (List ℕ)) → n ≤ length vs → FirstValid n (valids (sentBlocks s vs))
-unfolding sentBlocks valids
-sent-first zero s vs h = tt
-sent-first (suc n) s [] h = absurd (omega arith)
-sent-first (suc n) s (v ∷ vs) h = (sent-sound (transmitOf s (vectorKind v)) v .1, sent-first n (transmitOf s (vectorKind v)) vs (omega arith))
-
--- ---- read as they were sent
-
 -- ten bytes, the two control bytes at most 15
 pub record Vector (v : List ℕ) : Type 0 where
   pub ten : length v ≡ 10
@@ -96,52 +57,96 @@ abbrev pub Vectors : List (List ℕ) → Type 0
 Vectors [] = Unit
 Vectors (v ∷ vs) = Vector v × Vectors vs
 
--- in a state other than E the block is the vector's own
-own-block : (s : State) (v : List ℕ) → isError s ≡ false → blockIn s v ≡ ownBlock (carrier v)
-unfolding blockIn
-own-block Init v h = refl
-own-block Control v h = refl
-own-block Data v h = refl
-own-block Terminate v h = refl
-own-block Error v h = absurd (true≢false h)
+module _ (ed : Edition) where
+  -- a vector's own block
+  own-sound : (v : List ℕ) → Sound (ownBlock (carrier ed v))
+  own-sound v = go (carrier ed v) refl
+    where
+      go : (c : Carrier) → carrier ed v ≡ c → Sound (ownBlock c)
+      go (block k h x) e = let w = valid-header h (carrier-header ed v k h x e) in ((w .0, carrier-fits ed v k h x e), w .1)
+      go none e = error-sound
 
--- a block with the kind of a vector, which is decoded to it
-abbrev Gives : Block → List ℕ → Type 0
-Gives b v = (kindOf (b .header) (b .payload) ≡ vectorKind v) × (decoded (b .header) (b .payload) ≡ v)
+  -- the block sent in a state
+  sent-sound : (s : State) (v : List ℕ) → Sound (blockIn ed s v)
+  unfolding blockIn
+  sent-sound Init v = own-sound v
+  sent-sound Control v = own-sound v
+  sent-sound Data v = own-sound v
+  sent-sound Terminate v = own-sound v
+  sent-sound Error v = error-sound
+  sent-sound LowPower v = own-sound v
 
--- a vector that does not lead to E: its block has its kind and is decoded to it
-gives : (s : State) (v : List ℕ) → Vector v → isError (transmitOf s (vectorKind v)) ≡ false → Gives (blockIn (transmitOf s (vectorKind v)) v) v
-unfolding vectorKind
-gives s v w h = subst (λ (b : Block). Gives b v) (sym (own-block (transmitOf s (vectorKind v)) v h)) (go (carrier v) refl)
-  where
-    go : (c : Carrier) → carrier v ≡ c → Gives (ownBlock c) v
-    go (block k y x) e = let r = round-trip v k y x (w .ten) (octets v k y x e (w .ten) (w .low) (w .high)) (w .low) (w .high) e in rw e r
-    go none e = absurd (true≢false (sym (ap isError (error-any s true)) ∙ rw e at h))
+  -- ---- a list of blocks
 
--- of a legal list every block is the vector's own, and carries it
-pub carried : (s : State) (vs : List (List ℕ)) (ts : List Tested) → Vectors vs → legalFrom s vs ≡ true → Reads (sentBlocks s vs) ts → Carries vs ts
-unfolding sentBlocks
-carried s [] [] w l r = tt
-carried s [] (t ∷ ts) w l r = absurd r
-carried s (v ∷ vs) [] w l r = absurd r
-carried s (v ∷ vs) (t ∷ ts) w l r =
-    let g = gives s v (w .0) (legal-head s v vs l) in
-    (r .0 ∙ g .0, r .1 ∙ g .1, carried (transmitOf s (vectorKind v)) vs ts (w .1) (legal-tail s v vs l) (r .2))
+  -- every block fits
+  pub sent-fit : (s : State) (vs : List (List ℕ)) → AllFit (sentBlocks ed s vs)
+  unfolding sentBlocks
+  sent-fit s [] = tt
+  sent-fit s (v ∷ vs) = (sent-sound (transmitOf s (vectorKind ed v)) v .0, sent-fit (transmitOf s (vectorKind ed v)) vs)
 
--- ---- a list is legal exactly when sending replaces none of its vectors
+  -- no header is invalid
+  pub sent-valid : (s : State) (vs : List (List ℕ)) → invalids (valids (sentBlocks ed s vs)) ≡ 0
+  unfolding sentBlocks valids invalids invalidOf
+  sent-valid s [] = refl
+  sent-valid s (v ∷ vs) = rw (sent-sound (transmitOf s (vectorKind ed v)) v .1) (omega (arith, sent-valid (transmitOf s (vectorKind ed v)) vs))
 
--- the test of `legal` is the test that none was replaced
-pub legal-exactly : (s : State) (vs : List (List ℕ)) → legalFrom s vs ≡ eqb (replaced s vs) 0
-unfolding legalFrom replaced
-legal-exactly s [] = refl
-legal-exactly s (v ∷ vs) = go (transmitOf s (vectorKind v)) (legal-exactly (transmitOf s (vectorKind v)) vs)
-  where
-    kept : (n : ℕ) → eqb n 0 ≡ eqb (0 + n) 0
-    kept n = let e : n ≡ 0 + n = omega arith in ap (λ (m : ℕ). eqb m 0) e
+  -- the first n headers are valid
+  pub sent-first : (n : ℕ) (s : State) (vs : List (List ℕ)) → n ≤ length vs → FirstValid n (valids (sentBlocks ed s vs))
+  unfolding sentBlocks valids
+  sent-first zero s vs h = tt
+  sent-first (suc n) s [] h = absurd (omega arith)
+  sent-first (suc n) s (v ∷ vs) h = (sent-sound (transmitOf s (vectorKind ed v)) v .1, sent-first n (transmitOf s (vectorKind ed v)) vs (omega arith))
 
-    go : (s′ : State) → legalFrom s′ vs ≡ eqb (replaced s′ vs) 0 → not (isError s′) && legalFrom s′ vs ≡ eqb (replacedIn s′ + replaced s′ vs) 0
-    go Init e = e ∙ kept (replaced Init vs)
-    go Control e = e ∙ kept (replaced Control vs)
-    go Data e = e ∙ kept (replaced Data vs)
-    go Terminate e = e ∙ kept (replaced Terminate vs)
-    go Error e = sym (ne-eqb (1 + replaced Error vs) 0 (λ q. omega arith))
+  -- ---- read as they were sent
+
+  -- in a state other than E the block is the vector's own
+  own-block : (s : State) (v : List ℕ) → isError s ≡ false → blockIn ed s v ≡ ownBlock (carrier ed v)
+  unfolding blockIn
+  own-block Init v h = refl
+  own-block Control v h = refl
+  own-block Data v h = refl
+  own-block Terminate v h = refl
+  own-block LowPower v h = refl
+  own-block Error v h = absurd (true≢false h)
+
+  -- a block with the kind of a vector, which is decoded to it
+  abbrev Gives : Block → List ℕ → Type 0
+  Gives b v = (kindOf ed (b .header) (b .payload) ≡ vectorKind ed v) × (decoded ed (b .header) (b .payload) ≡ v)
+
+  -- a vector that does not lead to E: its block has its kind and is decoded to it
+  gives : (s : State) (v : List ℕ) → Vector v → isError (transmitOf s (vectorKind ed v)) ≡ false → Gives (blockIn ed (transmitOf s (vectorKind ed v)) v) v
+  unfolding vectorKind
+  gives s v w h = subst (λ (b : Block). Gives b v) (sym (own-block (transmitOf s (vectorKind ed v)) v h)) (go (carrier ed v) refl)
+    where
+      go : (c : Carrier) → carrier ed v ≡ c → Gives (ownBlock c) v
+      go (block k y x) e = let r = round-trip ed v k y x (w .ten) (octets ed v k y x e (w .ten) (w .low) (w .high)) (w .low) (w .high) e in rw e r
+      go none e = absurd (true≢false (sym (ap isError (error-any s true)) ∙ rw e at h))
+
+  -- of a legal list every block is the vector's own, and carries it
+  pub carried : (s : State) (vs : List (List ℕ)) (ts : List Tested) → Vectors vs → legalFrom ed s vs ≡ true → Reads ed (sentBlocks ed s vs) ts → Carries ed vs ts
+  unfolding sentBlocks
+  carried s [] [] w l r = tt
+  carried s [] (t ∷ ts) w l r = absurd r
+  carried s (v ∷ vs) [] w l r = absurd r
+  carried s (v ∷ vs) (t ∷ ts) w l r =
+      let g = gives s v (w .0) (legal-head ed s v vs l) in
+      (r .0 ∙ g .0, r .1 ∙ g .1, carried (transmitOf s (vectorKind ed v)) vs ts (w .1) (legal-tail ed s v vs l) (r .2))
+
+  -- ---- a list is legal exactly when sending replaces none of its vectors
+
+  -- the test of `legal` is the test that none was replaced
+  pub legal-exactly : (s : State) (vs : List (List ℕ)) → legalFrom ed s vs ≡ eqb (replaced ed s vs) 0
+  unfolding legalFrom replaced
+  legal-exactly s [] = refl
+  legal-exactly s (v ∷ vs) = go (transmitOf s (vectorKind ed v)) (legal-exactly (transmitOf s (vectorKind ed v)) vs)
+    where
+      kept : (n : ℕ) → eqb n 0 ≡ eqb (0 + n) 0
+      kept n = let e : n ≡ 0 + n = omega arith in ap (λ (m : ℕ). eqb m 0) e
+
+      go : (s′ : State) → legalFrom ed s′ vs ≡ eqb (replaced ed s′ vs) 0 → not (isError s′) && legalFrom ed s′ vs ≡ eqb (replacedIn s′ + replaced ed s′ vs) 0
+      go Init e = e ∙ kept (replaced ed Init vs)
+      go Control e = e ∙ kept (replaced ed Control vs)
+      go Data e = e ∙ kept (replaced ed Data vs)
+      go Terminate e = e ∙ kept (replaced ed Terminate vs)
+      go LowPower e = e ∙ kept (replaced ed LowPower vs)
+      go Error e = sym (ne-eqb (1 + replaced ed Error vs) 0 (λ q. omega arith))

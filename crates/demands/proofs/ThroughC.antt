@@ -8,6 +8,7 @@ use borrow.Author.Tests.{ltb-false}
 use Rattle.bits.specs.Bits.{bit, number, cut}
 use Rattle.refusals.specs.First.{Check, check, Verdict, accepted, refused, first, byVerdict}
 use Rattle.refusals.proofs.Laws.{passed}
+use Rattle.block.specs.Block.{editionOf}
 use Rattle.sending.specs.Send.{sentLine}
 use Rattle.sending.specs.Answer as Sending
 use Rattle.receiving.specs.Receive.{receivedVectors}
@@ -75,30 +76,30 @@ fourth (refused m q) came success refusal slice′ written slice e f = λ i. (e 
 -- sending
 pub demand-1-of-send-through-c : Demand1OfSendThroughC
 unfolding sendResult sendLine sendSummary sendVerdict Sending.sendRoom cut bit number
-demand-1-of-send-through-c bytes start room summary r room′ summary′ p =
+demand-1-of-send-through-c edition bytes start room summary r room′ summary′ p =
     outcome _ _ _ _
-    (through 3 3 (tooShort 8 3 (length summary)) checks (sendWords (Sending.sentFor bytes start)) summary (sentLine bytes start ++ drop (length (sentLine bytes start)) room) room
-    refl (λ e. e) r room′ summary′ (p .0) (p .1) (p .2 ∙ ap (λ (ws : List ℕ). summaryWith 3 ws summary) (by (first (after 3 (check 4 (tooShort 8 3 (length summary))) checks)))))
+    (through 3 4 (tooShort 8 3 (length summary)) checks (sendWords (Sending.sentFor (editionOf edition) bytes start)) summary (sentLine (editionOf edition) bytes start ++ drop (length (sentLine (editionOf edition) bytes start)) room) room
+    refl (λ e. e) r room′ summary′ (p .0) (p .1) (p .2 ∙ ap (λ (ws : List ℕ). summaryWith 3 ws summary) (by (first (after 4 (check 4 (tooShort 8 3 (length summary))) checks)))))
   where
     checks : List Check
-    checks = Sending.sendChecks bytes start (length room)
+    checks = Sending.sendChecks edition bytes start (length room)
 
-    by : (v : Verdict) → sendWords (byVerdict v (Sending.sentFor bytes start) Sending.refused) ≡ byVerdict v (sendWords (Sending.sentFor bytes start)) (λ m q. replicate 3 0)
+    by : (v : Verdict) → sendWords (byVerdict v (Sending.sentFor (editionOf edition) bytes start) Sending.refused) ≡ byVerdict v (sendWords (Sending.sentFor (editionOf edition) bytes start)) (λ m q. replicate 3 0)
     by accepted = refl
     by (refused m q) = refl
 
 -- receiving
 pub demand-1-of-receive-through-c : Demand1OfReceiveThroughC
 unfolding receiveResult receiveVectors receiveSummary receiveCounters receiveVerdict Receiving.receiveRoom cut bit number
-demand-1-of-receive-through-c line room summary counters r room′ summary′ counters′ p =
+demand-1-of-receive-through-c edition line room summary counters r room′ summary′ counters′ p =
     outcome _ _ _ _
-    (fourth (first (after 1 (check 4 short) checks)) (r, room′, summary′) _ _ counters′ _ counters
-    (through receiveLength 1 short checks (receiveWords (Receiving.received (Receiving.summaryOf line))) summary (receivedVectors line ++ drop (length (receivedVectors line)) room) room
-    refl own r room′ summary′ (p .0) (p .1) (p .2 ∙ ap (λ (ws : List ℕ). summaryWith receiveLength ws summary) (by (first (after 1 (check 4 short) checks)))))
+    (fourth (first (after 2 (check 4 short) checks)) (r, room′, summary′) _ _ counters′ _ counters
+    (through receiveLength 2 short checks (receiveWords (Receiving.received (Receiving.summaryOf (editionOf edition) line))) summary (receivedVectors (editionOf edition) line ++ drop (length (receivedVectors (editionOf edition) line)) room) room
+    refl own r room′ summary′ (p .0) (p .1) (p .2 ∙ ap (λ (ws : List ℕ). summaryWith receiveLength ws summary) (by (first (after 2 (check 4 short) checks)))))
     (p .3))
   where
     checks : List Check
-    checks = Receiving.receiveChecks (length line) (length room)
+    checks = Receiving.receiveChecks edition (length line) (length room)
 
     short : Bool
     short = shortSlice (length summary) (length counters)
@@ -110,6 +111,6 @@ demand-1-of-receive-through-c line room summary counters r room′ summary′ co
     own : short ≡ false → tooShort 8 receiveLength (length summary) ≡ false
     own e = left (tooShort 8 receiveLength (length summary)) (tooShort 4 8 (length counters)) e
 
-    by : (v : Verdict) → receiveWords (byVerdict v (Receiving.received (Receiving.summaryOf line)) Receiving.refused) ≡ byVerdict v (receiveWords (Receiving.received (Receiving.summaryOf line))) (λ m q. replicate receiveLength 0)
+    by : (v : Verdict) → receiveWords (byVerdict v (Receiving.received (Receiving.summaryOf (editionOf edition) line)) Receiving.refused) ≡ byVerdict v (receiveWords (Receiving.received (Receiving.summaryOf (editionOf edition) line))) (λ m q. replicate receiveLength 0)
     by accepted = refl
     by (refused m q) = refl

@@ -5,7 +5,7 @@ use Prim.Native.Nat.{ℕ}
 use lib.Dec.{lit≤}
 use lib.ListN.{replicate}
 use Rattle.refusals.specs.First.{first}
-use Rattle.block.specs.Block.{carrier, vectorKind, highFrom, highControl}
+use Rattle.block.specs.Block.{editionOf, carrier, kindFor, vectorKind, highFrom, highControl}
 use Rattle.diagrams.specs.Diagram.{diagramOf, afterIdle, afterData, afterError}
 use Rattle.sending.specs.Send.{vectorsIn, vectorsOf}
 use Rattle.sending.specs.Answer.{sendChecks}
@@ -30,15 +30,35 @@ bytes : List ℕ
 bytes = flatten (replicate 65 idle ++ frame)
 
 -- sending accepts them
-taken : accepts bytes 0 561
+taken : accepts 0 bytes 0 561
 unfolding bytes flatten sendChecks first highControl highFrom
 taken = refl
 
 -- the demand speaks of them
-returnable : Returnable (vectorsOf bytes)
-unfolding bytes flatten vectorsIn vectorKind carrier legalFrom controlVectors controlVector diagramOf afterIdle afterData afterError
+returnable : Returnable (editionOf 0) (vectorsOf bytes)
+unfolding bytes flatten vectorsIn editionOf vectorKind carrier kindFor legalFrom controlVectors controlVector diagramOf afterIdle afterData afterError
 returnable = record { is-legal = refl; long = lit≤ tt; starts-with-control = refl }
 
 -- so they come back
-returned : Returned bytes 0
-returned = demand-2 bytes 0 561 taken returnable
+returned : Returned (editionOf 0) bytes 0
+returned = demand-2 0 bytes 0 561 taken returnable
+
+-- ---- in the newer edition, with low power idle after the frame
+
+-- eight characters 06
+abbrev low : List ℕ
+low = 0x0f ∷ 6 ∷ 6 ∷ 6 ∷ 6 ∷ 0x0f ∷ 6 ∷ 6 ∷ 6 ∷ 6 ∷ []
+
+low-bytes : List ℕ
+low-bytes = flatten (replicate 64 idle ++ frame ++ low ∷ [])
+
+low-taken : accepts 1 low-bytes 0 561
+unfolding low-bytes flatten sendChecks first highControl highFrom
+low-taken = refl
+
+low-returnable : Returnable (editionOf 1) (vectorsOf low-bytes)
+unfolding low-bytes flatten vectorsIn editionOf vectorKind carrier kindFor legalFrom controlVectors controlVector diagramOf afterIdle afterData afterError
+low-returnable = record { is-legal = refl; long = lit≤ tt; starts-with-control = refl }
+
+low-returned : Returned (editionOf 1) low-bytes 0
+low-returned = demand-2 1 low-bytes 0 561 low-taken low-returnable

@@ -8,7 +8,8 @@ use mathlib.Core.Logic.{_⊎_}
 use lib.Dec.{eqb}
 use lib.ListN.{length, drop}
 use Rattle.refusals.specs.First.{Check, check}
-use Rattle.block.specs.Block.{EncodeAnswer, carried, refused, encodeAnswer, carrier, controlCheck}
+use Rattle.block.specs.declared.Edition.{Edition}
+use Rattle.block.specs.Block.{editionOf, EncodeAnswer, carried, refused, encodeAnswer, carrier, controlCheck}
 use Rattle.sending.specs.Send.{sentLine}
 use Rattle.sending.specs.Answer as Sending
 use Rattle.sending.specs.declared.Sent.{Sent}
@@ -46,30 +47,30 @@ pub data Outcome {A : Type 0} (checks : List Check) (came success : A) (refusal 
 -- sending
 abbrev pub Demand1OfSend : Type 0
 Demand1OfSend =
-    (bytes : List ℕ) (start : ℕ) (room : List ℕ) (r : Sent) (room′ : List ℕ) → Sending.Sends bytes start room r room′
-    → Outcome {A = Sending.SendAnswer × List ℕ} (Sending.sendChecks bytes start (length room))
+    (edition : ℕ) (bytes : List ℕ) (start : ℕ) (room : List ℕ) (r : Sent) (room′ : List ℕ) → Sending.Sends edition bytes start room r room′
+    → Outcome {A = Sending.SendAnswer × List ℕ} (Sending.sendChecks edition bytes start (length room))
     (Sending.answerOf r, room′)
-    (Sending.sentFor bytes start, sentLine bytes start ++ drop (length (sentLine bytes start)) room)
+    (Sending.sentFor (editionOf edition) bytes start, sentLine (editionOf edition) bytes start ++ drop (length (sentLine (editionOf edition) bytes start)) room)
     (λ number place. (Sending.refused number place, room))
 
 -- receiving
 abbrev pub Demand1OfReceive : Type 0
 Demand1OfReceive =
-    (line room : List ℕ) (r : Received) (room′ : List ℕ) → Receiving.Receives line room r room′
-    → Outcome {A = Receiving.ReceiveAnswer × List ℕ} (Receiving.receiveChecks (length line) (length room))
+    (edition : ℕ) (line room : List ℕ) (r : Received) (room′ : List ℕ) → Receiving.Receives edition line room r room′
+    → Outcome {A = Receiving.ReceiveAnswer × List ℕ} (Receiving.receiveChecks edition (length line) (length room))
     (Receiving.answerOf r, room′)
-    (Receiving.received (Receiving.summaryOf line), receivedVectors line ++ drop (length (receivedVectors line)) room)
+    (Receiving.received (Receiving.summaryOf (editionOf edition) line), receivedVectors (editionOf edition) line ++ drop (length (receivedVectors (editionOf edition) line)) room)
     (λ number place. (Receiving.refused number place, room))
 
 -- receiving with a lent record of counters
 abbrev pub Demand1OfReceiveCounting : Type 0
 Demand1OfReceiveCounting =
-    (line room : List ℕ) (c : Counters) (r : Received) (room′ : List ℕ) (c′ : Counters) → ReceivesCounting line room c r room′ c′
-    → Outcome {A = Receiving.ReceiveAnswer × List ℕ × Counters} (Receiving.receiveChecks (length line) (length room))
+    (edition : ℕ) (line room : List ℕ) (c : Counters) (r : Received) (room′ : List ℕ) (c′ : Counters) → ReceivesCounting edition line room c r room′ c′
+    → Outcome {A = Receiving.ReceiveAnswer × List ℕ × Counters} (Receiving.receiveChecks edition (length line) (length room))
     (Receiving.answerOf r, room′, c′) (
-      Receiving.received (Receiving.summaryOf line),
-      receivedVectors line ++ drop (length (receivedVectors line)) room,
-      updated c (Receiving.summaryOf line .counts) (Receiving.summaryOf line .handed),
+      Receiving.received (Receiving.summaryOf (editionOf edition) line),
+      receivedVectors (editionOf edition) line ++ drop (length (receivedVectors (editionOf edition) line)) room,
+      updated c (Receiving.summaryOf (editionOf edition) line .counts) (Receiving.summaryOf (editionOf edition) line .handed),
     )
     (λ number place. (Receiving.refused number place, room, c))
 
@@ -82,7 +83,7 @@ Demand1OfWrite =
     (Records.wrote (length body + 4), Records.recordOf kind body ++ drop (length body + 4) room)
     (λ number place. (Records.unwritten number place, room))
 
--- ---- entry points that hand a record's body on: a place at or past the end of the file is a plain end of records, and leaves the room as it was;
+-- ---- entry points that hand a record's body on, in the old edition: a place at or past the end of the file is a plain end of records, and leaves the room as it was;
 -- where no refusal of the record applies, they come to what sending or receiving answers to the body, which starts at the head plus four, and leaves
 
 abbrev pub OfRecord : {A : Type 0} (kind : ℕ) (file : List ℕ) (place : ℕ) (room : List ℕ) (came : Captures.Recorded A × List ℕ) (handed : List ℕ → A × List ℕ) → Type 0
@@ -97,13 +98,13 @@ OfRecord {A} kind file place room came handed =
 abbrev pub Demand1OfSendRecord : Type 0
 Demand1OfSendRecord =
     (file : List ℕ) (place start : ℕ) (room : List ℕ) (r : RecordSent) (room′ : List ℕ) → Captures.SendsRecord file place start room r room′
-    → OfRecord {A = Sending.SendAnswer} 1 file place room (Captures.sentOf r, room′) (λ vectors. (Sending.sendAnswer vectors start (length room), Sending.sendRoom vectors start room))
+    → OfRecord {A = Sending.SendAnswer} 1 file place room (Captures.sentOf r, room′) (λ vectors. (Sending.sendAnswer 0 vectors start (length room), Sending.sendRoom 0 vectors start room))
 
 -- receiving the line of a record
 abbrev pub Demand1OfReceiveRecord : Type 0
 Demand1OfReceiveRecord =
     (file : List ℕ) (place : ℕ) (room : List ℕ) (r : RecordReceived) (room′ : List ℕ) → Captures.ReceivesRecord file place room r room′
-    → OfRecord {A = Receiving.ReceiveAnswer} 2 file place room (Captures.receivedOf r, room′) (λ line. (Receiving.receiveAnswer line (length room), Receiving.receiveRoom line room))
+    → OfRecord {A = Receiving.ReceiveAnswer} 2 file place room (Captures.receivedOf r, room′) (λ line. (Receiving.receiveAnswer 0 line (length room), Receiving.receiveRoom 0 line room))
 
 -- ---- entry points that change no lent byte: what they come to is their answer
 
@@ -120,5 +121,5 @@ Demand1OfRead =
 -- "Encoding one vector by itself refuses a length other than 10 with 2, then 5; a vector of kind E is answered as kind E, not refused."
 abbrev pub Demand1OfEncode : Type 0
 Demand1OfEncode =
-    (vector : List ℕ) (answer : EncodeAnswer) → answer ≡ encodeAnswer vector
-    → Outcome (check 2 (not (eqb (length vector) 10)) ∷ controlCheck vector ∷ []) answer (carried (carrier vector)) refused
+    (ed : Edition) (vector : List ℕ) (answer : EncodeAnswer) → answer ≡ encodeAnswer ed vector
+    → Outcome (check 2 (not (eqb (length vector) 10)) ∷ controlCheck vector ∷ []) answer (carried (carrier ed vector)) refused

@@ -1,11 +1,12 @@
 -- Demand 1 of the C boundary. What a call comes to is its result and the lent slices: a result is 0, or a refusal's number and 256 times
 -- its place; a refusal leaves zeros in the summary, and the room and the counters as they were. A summary too short for its words is
--- refusal 4, after 1, 2 and 3 in sending, after 1 in receiving; so are counters too short.
+-- refusal 4, after 13, 1, 2 and 3 in sending, after 13 and 1 in receiving; so are counters too short.
 use Prim.Native.Nat.{ℕ, _+_, _*_}
 use mathlib.Core.Bool.{cond}
 use mathlib.Core.List.{List, _++_}
 use lib.ListN.{length, drop, replicate}
 use Rattle.refusals.specs.First.{check}
+use Rattle.block.specs.Block.{editionOf}
 use Rattle.sending.specs.Send.{sentLine}
 use Rattle.sending.specs.Answer as Sending
 use Rattle.receiving.specs.Receive.{receivedVectors}
@@ -21,27 +22,27 @@ zeroed words summary = cond (Boundary.tooShort 8 words (length summary)) summary
 -- sending
 abbrev pub Demand1OfSendThroughC : Type 0
 Demand1OfSendThroughC =
-    (bytes : List ℕ) (start : ℕ) (room summary : List ℕ) (r : ℕ) (room′ summary′ : List ℕ)
-    → Boundary.SendsThroughC bytes start room summary r room′ summary′
-    → Outcome {A = ℕ × List ℕ × List ℕ} (Boundary.after 3 (check 4 (Boundary.tooShort 8 3 (length summary))) (Sending.sendChecks bytes start (length room)))
+    (edition : ℕ) (bytes : List ℕ) (start : ℕ) (room summary : List ℕ) (r : ℕ) (room′ summary′ : List ℕ)
+    → Boundary.SendsThroughC edition bytes start room summary r room′ summary′
+    → Outcome {A = ℕ × List ℕ × List ℕ} (Boundary.after 4 (check 4 (Boundary.tooShort 8 3 (length summary))) (Sending.sendChecks edition bytes start (length room)))
     (r, room′, summary′) (
       0,
-      sentLine bytes start ++ drop (length (sentLine bytes start)) room,
-      Boundary.wordBytes 8 (Boundary.sendWords (Sending.sentFor bytes start)) ++ drop 24 summary,
+      sentLine (editionOf edition) bytes start ++ drop (length (sentLine (editionOf edition) bytes start)) room,
+      Boundary.wordBytes 8 (Boundary.sendWords (Sending.sentFor (editionOf edition) bytes start)) ++ drop 24 summary,
     )
     (λ number place. (number + 256 * place, room, zeroed 3 summary))
 
 -- receiving
 abbrev pub Demand1OfReceiveThroughC : Type 0
 Demand1OfReceiveThroughC =
-    (line room summary counters : List ℕ) (r : ℕ) (room′ summary′ counters′ : List ℕ)
-    → Boundary.ReceivesThroughC line room summary counters r room′ summary′ counters′
+    (edition : ℕ) (line room summary counters : List ℕ) (r : ℕ) (room′ summary′ counters′ : List ℕ)
+    → Boundary.ReceivesThroughC edition line room summary counters r room′ summary′ counters′
     → Outcome {A = ℕ × List ℕ × List ℕ × List ℕ}
-    (Boundary.after 1 (check 4 (Boundary.shortSlice (length summary) (length counters))) (Receiving.receiveChecks (length line) (length room)))
+    (Boundary.after 2 (check 4 (Boundary.shortSlice (length summary) (length counters))) (Receiving.receiveChecks edition (length line) (length room)))
     (r, room′, summary′, counters′) (
       0,
-      receivedVectors line ++ drop (length (receivedVectors line)) room,
-      Boundary.wordBytes 8 (Boundary.receiveWords (Receiving.received (Receiving.summaryOf line))) ++ drop (8 * Boundary.receiveLength) summary,
-      Boundary.countersWith (updated (Boundary.countersIn counters) (Receiving.summaryOf line .counts) (Receiving.summaryOf line .handed)) counters,
+      receivedVectors (editionOf edition) line ++ drop (length (receivedVectors (editionOf edition) line)) room,
+      Boundary.wordBytes 8 (Boundary.receiveWords (Receiving.received (Receiving.summaryOf (editionOf edition) line))) ++ drop (8 * Boundary.receiveLength) summary,
+      Boundary.countersWith (updated (Boundary.countersIn counters) (Receiving.summaryOf (editionOf edition) line .counts) (Receiving.summaryOf (editionOf edition) line .handed)) counters,
     )
     (λ number place. (number + 256 * place, room, zeroed Boundary.receiveLength summary, counters))

@@ -4,18 +4,19 @@ use mathlib.Core.Path.{_≡_}
 use mathlib.Core.Bool.{Bool, true, false, not, _&&_}
 use mathlib.Core.List.{List, [], _∷_}
 use Rattle.refusals.specs.First.{first, accepted}
+use Rattle.block.specs.declared.Edition.{Edition}
 use Rattle.block.specs.Block.{vectorKind}
 use Rattle.block.specs.declared.Kind.{Kind}
-use Rattle.block.specs.declared.Kind.the-variants.{D, C, S, T, E}
+use Rattle.block.specs.declared.Kind.the-variants.{D, C, S, T, LI, E}
 use Rattle.diagrams.specs.Diagram.{transmitOf}
 use Rattle.diagrams.specs.declared.State.{State}
-use Rattle.diagrams.specs.declared.State.the-variants.{Init, Control, Data, Terminate, Error}
+use Rattle.diagrams.specs.declared.State.the-variants.{Init, Control, Data, Terminate, Error, LowPower}
 use Rattle.sending.specs.Answer.{sendChecks}
 use Rattle.receiving.specs.declared.Summary.{Summary}
 
--- Sending accepts vector bytes, from a start state and with room for the line: none of its refusals applies.
-abbrev pub accepts : (bytes : List ℕ) (start room : ℕ) → Type 0
-accepts bytes start room = first (sendChecks bytes start room) ≡ accepted
+-- Sending accepts vector bytes, in an edition, from a start state and with room for the line: none of its refusals applies.
+abbrev pub accepts : (edition : ℕ) (bytes : List ℕ) (start room : ℕ) → Type 0
+accepts edition bytes start room = first (sendChecks edition bytes start room) ≡ accepted
 
 -- state E of the diagrams
 abbrev pub isError : State → Bool
@@ -24,16 +25,7 @@ isError Control = false
 isError Data = false
 isError Terminate = false
 isError Error = true
-
--- "A list is legal when no vector leads to E.": from a state of the transmit diagram, and "from INIT"
-unfoldable pub legalFrom : State → List (List ℕ) → Bool
-legalFrom s [] = true
-legalFrom s (v ∷ vs) =
-    let s′ = transmitOf s (vectorKind v) in
-    not (isError s′) && legalFrom s′ vs
-
-abbrev pub legal : List (List ℕ) → Bool
-legal vectors = legalFrom Init vectors
+isError LowPower = false
 
 -- kind C
 abbrev pub isControl : Kind → Bool
@@ -42,15 +34,27 @@ isControl C = true
 isControl S = false
 isControl T = false
 isControl E = false
+isControl LI = false
 
--- "A control vector is one of kind C."
-unfoldable pub controlVector : List ℕ → Bool
-controlVector v = isControl (vectorKind v)
+module _ (ed : Edition) where
+  -- "A list is legal when no vector leads to E.": from a state of the transmit diagram, and "from INIT"
+  unfoldable pub legalFrom : State → List (List ℕ) → Bool
+  legalFrom s [] = true
+  legalFrom s (v ∷ vs) =
+      let s′ = transmitOf s (vectorKind ed v) in
+      not (isError s′) && legalFrom s′ vs
 
--- every vector of a list is a control vector
-unfoldable pub controlVectors : List (List ℕ) → Bool
-controlVectors [] = true
-controlVectors (v ∷ vs) = controlVector v && controlVectors vs
+  abbrev pub legal : List (List ℕ) → Bool
+  legal vectors = legalFrom Init vectors
+
+  -- "A control vector is one of kind C."
+  unfoldable pub controlVector : List ℕ → Bool
+  controlVector v = isControl (vectorKind ed v)
+
+  -- every vector of a list is a control vector
+  unfoldable pub controlVectors : List (List ℕ) → Bool
+  controlVectors [] = true
+  controlVectors (v ∷ vs) = controlVector v && controlVectors vs
 
 -- a summary of n blocks tested with no slip, a vector for each, that leave the receiver locked and not high
 pub record Unbroken (n : ℕ) (s : Summary) : Type 0 where

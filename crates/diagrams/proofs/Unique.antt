@@ -26,5 +26,5 @@ diagram-step-unique s k ends a b p q = p ∙ sym q
 pub may-follow-unique : (k : Kind) (a b : Bool) → a ≡ follows k → b ≡ follows k → a ≡ b
 may-follow-unique k a b p q = p ∙ sym q
 
-pub state-number-unique : (s : State) (a b : ℕ) → (a ≡ stateNumber s) × (a < 5) → (b ≡ stateNumber s) × (b < 5) → a ≡ b
+pub state-number-unique : (s : State) (a b : ℕ) → (a ≡ stateNumber s) × (a < 6) → (b ≡ stateNumber s) × (b < 6) → a ≡ b
 state-number-unique s a b p q = p .0 ∙ sym (q .0)

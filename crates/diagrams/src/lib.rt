@@ -4,7 +4,7 @@ ghost use Prim.Native.Nat.{_<_, _≤_};
 ghost use Rattle.diagrams.specs.Lock.{lockOf, slipsOf, countedOf, invalidOf};
 ghost use Rattle.diagrams.specs.Rate.{rateOf, windowOf};
 ghost use Rattle.diagrams.specs.Diagram.{diagramOf, stateNumber, follows};
-ghost use Rattle.diagrams.specs.Parts.{isData, goesOn};
+ghost use Rattle.diagrams.specs.Parts.{isData, goesOn, begins, rests};
 use block::Kind;
 
 // Headers tested and those of them invalid since the counts were last zero, and whether the receiver is locked.
@@ -27,12 +27,14 @@ pub struct Rate {
     pub high: bool,
 }
 
-// The states of both diagrams: INIT, C, D, T, E.
+// The states of both diagrams: INIT, C, T, LI, and then D and E, in which a frame may go on, so that one comparison tells these two. The
+// document's numbers are another matter (state_number).
 pub enum State {
     Init,
     Control,
-    Data,
     Terminate,
+    LowPower,
+    Data,
     Error,
 }
 
@@ -167,6 +169,7 @@ fn is_data(s: State) -> bool
         State::Data => true,
         State::Terminate => false,
         State::Error => false,
+        State::LowPower => false,
     }
 }
 
@@ -180,6 +183,35 @@ fn goes_on(s: State) -> bool
         State::Data => true,
         State::Terminate => false,
         State::Error => true,
+        State::LowPower => false,
+    }
+}
+
+// Whether a Start begins a frame: the state is INIT, C or T.
+fn may_begin(s: State) -> bool
+    ensures { λ r. ⌜ r ≡ begins s ⌝ }
+{
+    match s {
+        State::Init => true,
+        State::Control => true,
+        State::Data => false,
+        State::Terminate => true,
+        State::Error => false, // a Start straight after E
+        State::LowPower => false, // a Start straight from LI
+    }
+}
+
+// Whether low power idle is in turn: the state is C, T, E or LI.
+fn may_rest(s: State) -> bool
+    ensures { λ r. ⌜ r ≡ rests s ⌝ }
+{
+    match s {
+        State::Init => false, // LI before the first C
+        State::Control => true,
+        State::Data => false, // LI after D
+        State::Terminate => true,
+        State::Error => true,
+        State::LowPower => true,
     }
 }
 
@@ -191,7 +223,11 @@ pub fn diagram_step(s: State, k: Kind, ends: bool) -> State
     let on = goes_on(s);
     match k {
         Kind::D => if on { State::Data } else { State::Error },
-        Kind::S => if on { State::Error } else { State::Data },
+        Kind::S => if may_begin(s) {
+            State::Data
+        } else {
+            State::Error
+        },
         Kind::C => if is_data(s) {
             State::Error
         } else {
@@ -205,6 +241,11 @@ pub fn diagram_step(s: State, k: Kind, ends: bool) -> State
             }
         }
         Kind::E => State::Error,
+        Kind::LI => if may_rest(s) {
+            State::LowPower
+        } else {
+            State::Error
+        },
     }
 }
 
@@ -218,12 +259,13 @@ pub fn may_follow(k: Kind) -> bool
         Kind::D => false,
         Kind::T => false,
         Kind::E => false,
+        Kind::LI => true,
     }
 }
 
 // The document's number of a state.
 pub fn state_number(s: State) -> u64
-    ensures { λ r. ⌜ (r ≡ stateNumber s) × (r < 5) ⌝ }
+    ensures { λ r. ⌜ (r ≡ stateNumber s) × (r < 6) ⌝ }
 {
     match s {
         State::Init => 0,
@@ -231,5 +273,6 @@ pub fn state_number(s: State) -> u64
         State::Data => 2,
         State::Terminate => 3,
         State::Error => 4,
+        State::LowPower => 5,
     }
 }

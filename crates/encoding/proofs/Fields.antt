@@ -9,11 +9,12 @@ use lib.Dec.{T, eqb, ltb, leb, ltb→lt, leb→le, eqb→eq}
 use lib.ListN.{getD}
 use lib.Pow.{shl-exact}
 use borrow.Author.Tests.{ltb-true, ltb-false, eq-eqb}
+use Rattle.block.specs.declared.Edition.{Edition}
 use Rattle.block.specs.Block.{Slot, Control, Calm, Data, Set, Start, Terminate, flagAt, flagOf, laneOf, controlBit, codeOf, sentCode}
 use Rattle.block.specs.Rows.{width, row, SameFlags}
 use Rattle.block.proofs.Tests.{all, holds, each, at, eight}
 use Rattle.block.proofs.Reading.{flags-same}
-use Rattle.tables.specs.Tables.{tables, fieldIn, placeIn, codesFrom}
+use Rattle.tables.specs.Tables.{editionIn, Lent, fieldIn, placeIn, codesFrom}
 use Rattle.tables.proofs.Entries.{lane-at, from-at, place-at, code-of}
 use Rattle.encoding.specs.Parts.{spread, fieldCode}
 
@@ -67,13 +68,13 @@ module _ (r i : ℕ) (hr : r < 16) (hi : i < 8) where
   field-room = holds (fineField r i) 3 fine
 
   -- of a vector with the row's control bits a field takes the code of its octet
-  pub sent-code : (c0 c1 lanes : ℕ) → SameFlags (spread c0 c1 lanes) (row r) → sentCode (spread c0 c1 lanes) (fieldIn r i) ≡ fieldCode r i lanes
-  sent-code c0 c1 lanes e =
-      ap (λ (b : Bool). cond b (codeOf (fieldIn r i .slot) (laneOf (spread c0 c1 lanes) (fieldIn r i .char))) 256)
+  pub sent-code : (ed : Edition) (c0 c1 lanes : ℕ) → SameFlags (spread c0 c1 lanes) (row r) → sentCode ed (spread c0 c1 lanes) (fieldIn r i) ≡ fieldCode ed r i lanes
+  sent-code ed c0 c1 lanes e =
+      ap (λ (b : Bool). cond b (codeOf ed (fieldIn r i .slot) (laneOf (spread c0 c1 lanes) (fieldIn r i .char))) 256)
       (eq-eqb (flagOf (spread c0 c1 lanes) (fieldIn r i .char)) (controlBit (fieldIn r i .slot)) (flags-same (spread c0 c1 lanes) (row r) e (fieldIn r i .char) char-lt ∙ own-flag))
-      ∙ ap (codeOf (fieldIn r i .slot)) (lane-of c0 c1 lanes (fieldIn r i .char) char-lt)
+      ∙ ap (codeOf ed (fieldIn r i .slot)) (lane-of c0 c1 lanes (fieldIn r i .char) char-lt)
 
-  module _ (t : List ℕ) (e : t ≡ tables) where
+  module _ (t : List ℕ) (e : Lent t) where
     lane-is : getD t (978 + (8 * r + i)) 0 ≡ 8 * fieldIn r i .char
     lane-is = lane-at t e (8 * r + i) (omega arith) ∙ ap₂ (λ (a b : ℕ). 8 * fieldIn a b .char) quot rest
 
@@ -92,7 +93,7 @@ module _ (r i : ℕ) (hr : r < 16) (hi : i < 8) where
     pub place-lt : getD t (1234 + (8 * r + i)) 0 < 64
     place-lt = omega (arith, place-is)
 
-    pub code-is : (lanes : ℕ) → getD t (1634 + getD t (1106 + (8 * r + i)) 0 + lanes / 2 ^ getD t (978 + (8 * r + i)) 0 % 256) 0 ≡ fieldCode r i lanes
+    pub code-is : (lanes : ℕ) → getD t (1634 + getD t (1106 + (8 * r + i)) 0 + lanes / 2 ^ getD t (978 + (8 * r + i)) 0 % 256) 0 ≡ fieldCode (editionIn t) r i lanes
     code-is lanes =
         ap₂ (λ (f l : ℕ). getD t (1634 + f + lanes / 2 ^ l % 256) 0) from-is lane-is
         ∙ code-of (fieldIn r i .slot) t e (lanes / 2 ^ (8 * fieldIn r i .char) % 256) (omega arith)

@@ -5,15 +5,18 @@ use Prim.Native.Nat.{ℕ}
 use native.Mathlib.Omega.{arith}
 use Rattle.refusals.specs.Number.{numberOf}
 use Rattle.refusals.proofs.Laws.{number-injective}
+use Rattle.block.specs.declared.Edition.{Edition}
 use Rattle.block.specs.Block.{twoWords, carrier, encodeAnswer}
+use Rattle.tables.specs.Tables.{editionIn}
 use Rattle.encoding.specs.declared.Coded.{Coded}
 use Rattle.encoding.specs.declared.Encoded.{Encoded}
 use Rattle.encoding.specs.declared.Encoded.the-variants.{Refused, Invalid, Block}
 use Rattle.encoding.specs.Answer.{codedOf, answerOf}
 use Rattle.encoding.specs.Parts.{lanesAt}
 
-pub encode-unique : (c0 d0 c1 d1 : ℕ) (r r′ : Coded) → r ≡ codedOf (carrier (twoWords c0 d0 c1 d1)) → r′ ≡ codedOf (carrier (twoWords c0 d0 c1 d1)) → r ≡ r′
-encode-unique c0 d0 c1 d1 r r′ p q = p ∙ sym q
+pub encode-unique : (t : List ℕ) (c0 d0 c1 d1 : ℕ) (r r′ : Coded)
+    → r ≡ codedOf (carrier (editionIn t) (twoWords c0 d0 c1 d1)) → r′ ≡ codedOf (carrier (editionIn t) (twoWords c0 d0 c1 d1)) → r ≡ r′
+encode-unique t c0 d0 c1 d1 r r′ p q = p ∙ sym q
 
 pub lanes-at-unique : (v : List ℕ) (p r r′ : ℕ) → r ≡ lanesAt v p → r′ ≡ lanesAt v p → r ≡ r′
 lanes-at-unique v p r r′ e q = e ∙ sym q
@@ -33,5 +36,5 @@ answer-same (Block k h x) (Refused r p) e = absurd (let z : _≡_ {A = ℕ} 0 1 
 answer-same (Block k h x) Invalid e = absurd (let z : _≡_ {A = ℕ} 0 1 = cc in omega arith)
 answer-same (Block k h x) (Block k′ h′ x′) e = cc
 
-pub encode-vector-unique : (v : List ℕ) (z z′ : Encoded) → answerOf z ≡ encodeAnswer v → answerOf z′ ≡ encodeAnswer v → z ≡ z′
-encode-vector-unique v z z′ p q = answer-same z z′ (p ∙ sym q)
+pub encode-vector-unique : (ed : Edition) (v : List ℕ) (z z′ : Encoded) → answerOf z ≡ encodeAnswer ed v → answerOf z′ ≡ encodeAnswer ed v → z ≡ z′
+encode-vector-unique ed v z z′ p q = answer-same z z′ (p ∙ sym q)

@@ -3,8 +3,9 @@ use mathlib.Core.Bool.{true, false, cond}
 use mathlib.Core.List.{List}
 use Prim.Native.Nat.{ℕ, _+_, _*_, _/_, _%_, _^_}
 use lib.ListN.{getD}
+use Rattle.block.specs.declared.Edition.{Edition}
 use Rattle.block.specs.declared.Kind.{Kind}
-use Rattle.block.specs.declared.Kind.the-variants.{D, C, S, T, E}
+use Rattle.block.specs.declared.Kind.the-variants.{D, C, S, T, LI, E}
 use Rattle.block.specs.Block.{twoWords, Format, codeOf, carries, payloadOf}
 use Rattle.tables.specs.Tables.{fieldIn}
 use Rattle.encoding.specs.declared.Coded.{Coded}
@@ -17,12 +18,12 @@ abbrev pub spread : ℕ → ℕ → ℕ → List ℕ
 spread c0 c1 lanes = twoWords c0 (lanes % 2 ^ 32) c1 (lanes / 2 ^ 32)
 
 -- the code of field i of row r
-abbrev pub fieldCode : ℕ → ℕ → ℕ → ℕ
-fieldCode r i lanes = codeOf (fieldIn r i .slot) (lanes / 2 ^ (8 * fieldIn r i .char) % 2 ^ 8)
+abbrev pub fieldCode : Edition → ℕ → ℕ → ℕ → ℕ
+fieldCode ed r i lanes = codeOf ed (fieldIn r i .slot) (lanes / 2 ^ (8 * fieldIn r i .char) % 2 ^ 8)
 
 -- the payload of a format, where it carries the vector
-abbrev pub sumBy : List ℕ → Format → Sum
-sumBy v f = cond (carries v (f .fields)) (record { fits = true; payload = payloadOf v f }) (record { fits = false; payload = 0 })
+abbrev pub sumBy : Edition → List ℕ → Format → Sum
+sumBy ed v f = cond (carries ed v (f .fields)) (record { fits = true; payload = payloadOf ed v f }) (record { fits = false; payload = 0 })
 
 -- four bytes as lanes
 abbrev pub lanesAt : List ℕ → ℕ → ℕ
@@ -35,6 +36,7 @@ encodedBy C c = Block C (c .header) (c .payload)
 encodedBy S c = Block S (c .header) (c .payload)
 encodedBy T c = Block T (c .header) (c .payload)
 encodedBy E c = Invalid
+encodedBy LI c = Block LI (c .header) (c .payload)
 
 abbrev pub encodedOf : Coded → Encoded
 encodedOf c = encodedBy (c .kind) c

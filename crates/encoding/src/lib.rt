@@ -5,9 +5,10 @@ ghost use Prim.Native.Nat.{_+_, _*_, _<_, _≤_, _^_};
 ghost use lib.ListN.{length};
 ghost use Rattle.block.specs.Block.{twoWords, carrier, encodeAnswer};
 ghost use Rattle.block.specs.Rows.{row, SameFlags};
-ghost use Rattle.tables.specs.Tables.{tables, fieldIn, placeIn};
+ghost use Rattle.tables.specs.Tables.{editionIn, Lent, fieldIn, placeIn};
 ghost use Rattle.encoding.specs.Answer.{codedOf, answerOf};
 ghost use Rattle.encoding.specs.Parts.{spread, fieldCode, sumBy, lanesAt, encodedOf};
+use block::Edition;
 use block::Kind;
 use refusals::Refusal;
 
@@ -33,8 +34,8 @@ struct Sum {
 
 // The code of field i of row r for its octet of the eight, not below 256 where it has none.
 fn field_code(t: &[u16; 3170], r: usize, i: usize, lanes: u64) -> u16
-    requires { ⌜ (r < 16) × (i < 8) × (now t ≡ tables) ⌝ }
-    ensures { λ z. ⌜ z ≡ fieldCode r i lanes ⌝ }
+    requires { ⌜ (r < 16) × (i < 8) × Lent (now t) ⌝ }
+    ensures { λ z. ⌜ z ≡ fieldCode (editionIn (now (t .entry))) r i lanes ⌝ }
 {
     let k = 8 * r + i;
     let lane = t[tables::LANE + k];
@@ -45,7 +46,7 @@ fn field_code(t: &[u16; 3170], r: usize, i: usize, lanes: u64) -> u16
 
 // A code at the place of field i of row r.
 fn placed(t: &[u16; 3170], r: usize, i: usize, code: u64) -> u64
-    requires { ⌜ (r < 16) × (i < 8) × (code < 2 ^ fieldIn r i .bits) × (now t ≡ tables) ⌝ }
+    requires { ⌜ (r < 16) × (i < 8) × (code < 2 ^ fieldIn r i .bits) × Lent (now t) ⌝ }
     ensures { λ z. ⌜ z ≡ 2 ^ placeIn r i * code ⌝ }
 {
     let k = 8 * r + i;
@@ -55,8 +56,8 @@ fn placed(t: &[u16; 3170], r: usize, i: usize, code: u64) -> u64
 
 // The payload of row r, whose control bits are the vector's; c0 and c1 say which vector the lanes belong to.
 fn pack(t: &[u16; 3170], r: usize, c0: u8, c1: u8, lanes: u64) -> Sum
-    requires { ⌜ (r < 16) × SameFlags (spread c0 c1 lanes) (row r) × (now t ≡ tables) ⌝ }
-    ensures { λ z. ⌜ z ≡ sumBy (spread c0 c1 lanes) (row r) ⌝ }
+    requires { ⌜ (r < 16) × SameFlags (spread c0 c1 lanes) (row r) × Lent (now t) ⌝ }
+    ensures { λ z. ⌜ z ≡ sumBy (editionIn (now (t .entry))) (spread c0 c1 lanes) (row r) ⌝ }
 {
     let mut payload = t[tables::TYPE + r] as u64;
     let mut i = 0;
@@ -79,8 +80,8 @@ fn pack(t: &[u16; 3170], r: usize, c0: u8, c1: u8, lanes: u64) -> Sum
 
 // A vector with a control character: the rows with its control bits are tried one after the other.
 fn encode_rows(t: &[u16; 3170], c0: u8, c1: u8, lanes: u64) -> Coded
-    requires { ⌜ (c0 ≤ 15) × (c1 ≤ 15) × (0 < c0 + 16 * c1) × (now t ≡ tables) ⌝ }
-    ensures { λ z. ⌜ z ≡ codedOf (carrier (spread c0 c1 lanes)) ⌝ }
+    requires { ⌜ (c0 ≤ 15) × (c1 ≤ 15) × (0 < c0 + 16 * c1) × Lent (now t) ⌝ }
+    ensures { λ z. ⌜ z ≡ codedOf (carrier (editionIn (now (t .entry))) (spread c0 c1 lanes)) ⌝ }
 {
     let m = c0 as usize + 16 * (c1 as usize);
     let mut r = t[tables::FIRST + m] as usize;
@@ -88,7 +89,14 @@ fn encode_rows(t: &[u16; 3170], c0: u8, c1: u8, lanes: u64) -> Coded
         let s = pack(t, r, c0, c1, lanes);
         if s.fits {
             return Coded {
-                kind: tables::kind_at(t, r),
+                kind: tables::kind_of(
+                    t,
+                    r,
+                    c0,
+                    (lanes % 4294967296) as u32,
+                    c1,
+                    (lanes / 4294967296) as u32,
+                ),
                 header: 1,
                 payload: s.payload,
             };
@@ -104,8 +112,8 @@ fn encode_rows(t: &[u16; 3170], c0: u8, c1: u8, lanes: u64) -> Coded
 
 // A vector as two words: control bytes and lanes, lane 0 lowest. The tables are those of the crate tables.
 pub fn encode(t: &[u16; 3170], c0: u8, d0: u32, c1: u8, d1: u32) -> Coded
-    requires { ⌜ (c0 ≤ 15) × (c1 ≤ 15) × (now t ≡ tables) ⌝ }
-    ensures { λ r. ⌜ r ≡ codedOf (carrier (twoWords c0 d0 c1 d1)) ⌝ }
+    requires { ⌜ (c0 ≤ 15) × (c1 ≤ 15) × Lent (now t) ⌝ }
+    ensures { λ r. ⌜ r ≡ codedOf (carrier (editionIn (now (t .entry))) (twoWords c0 d0 c1 d1)) ⌝ }
 {
     let lanes = d0 as u64 + d1 as u64 * 4294967296;
     let m = c0 as u64 + 16 * (c1 as u64);
@@ -124,6 +132,16 @@ pub fn encode(t: &[u16; 3170], c0: u8, d0: u32, c1: u8, d1: u32) -> Coded
                 header: 1,
                 payload: 0x1e,
             };
+        }
+        // eight low power idles, if the edition has them
+        if lanes == 0x0606060606060606 {
+            if t[tables::LOW_POWER] < 256 {
+                return Coded {
+                    kind: Kind::LI,
+                    header: 1,
+                    payload: 0x0c183060c183061e,
+                };
+            }
         }
     }
     encode_rows(t, c0, c1, lanes)
@@ -153,12 +171,13 @@ fn answer(c: Coded) -> Encoded
         Kind::S => Encoded::Block(Kind::S, c.header, c.payload),
         Kind::T => Encoded::Block(Kind::T, c.header, c.payload),
         Kind::E => Encoded::Invalid,
+        Kind::LI => Encoded::Block(Kind::LI, c.header, c.payload),
     }
 }
 
 // One vector by itself.
-pub fn encode_vector(v: &[u8]) -> Encoded
-    ensures { λ z. ⌜ answerOf z ≡ encodeAnswer (now (v .entry)) ⌝ }
+pub fn encode_vector(edition: Edition, v: &[u8]) -> Encoded
+    ensures { λ z. ⌜ answerOf z ≡ encodeAnswer edition (now (v .entry)) ⌝ }
 {
     if v.len() != 10 {
         return Encoded::Refused(Refusal::NotGroups, 0);
@@ -171,7 +190,7 @@ pub fn encode_vector(v: &[u8]) -> Encoded
     if 15 < c1 {
         return Encoded::Refused(Refusal::ControlByte, 5);
     }
-    let t = tables::block_tables();
+    let t = tables::block_tables(edition);
     let d0 = lanes_at(v, 1);
     let d1 = lanes_at(v, 6);
     answer(encode(&t, c0, d0, c1, d1))

@@ -6,9 +6,11 @@ use Rattle.bits.specs.Bits.{bit, number}
 use Rattle.register.specs.Register.{mix, push, history, sent}
 use Rattle.scrambler.specs.Scrambler.{scrambled, mirror}
 use Rattle.refusals.specs.First.{first}
+use Rattle.block.specs.declared.Edition.{Edition}
+use Rattle.block.specs.declared.Edition.the-variants.{Old, New}
 use Rattle.block.specs.declared.Kind.{Kind}
 use Rattle.block.specs.declared.Kind.the-variants.{C, S, T, E}
-use Rattle.block.specs.Block.{block, carried, encodeAnswer, highFrom, highControl, carrier, kindOf, localFaultVector}
+use Rattle.block.specs.Block.{block, carried, encodeAnswer, highFrom, highControl, carrier, kindFor, kindOf, localFaultVector}
 
 -- a payload by its bytes, the first lowest
 unfoldable pub payload : List ℕ → ℕ
@@ -21,14 +23,14 @@ data Example : Type 0 where
   classifies : ℕ → List ℕ → Kind → Example
   scrambles : ℕ → ℕ → ℕ → Example
 
-Holds : Example → Type 0
-Holds (encodes v k bytes) = encodeAnswer v ≡ carried (block k 1 (payload bytes))
-Holds (classifies header bytes k) = kindOf header (payload bytes) ≡ k
-Holds (scrambles state p line) = scrambled p (mirror state) ≡ line
+Holds : Edition → Example → Type 0
+Holds ed (encodes v k bytes) = encodeAnswer ed v ≡ carried (block k 1 (payload bytes))
+Holds ed (classifies header bytes k) = kindOf ed header (payload bytes) ≡ k
+Holds ed (scrambles state p line) = scrambled p (mirror state) ≡ line
 
-All : List Example → Type 0
-All [] = Unit
-All (e ∷ es) = Holds e × All es
+All : Edition → List Example → Type 0
+All ed [] = Unit
+All ed (e ∷ es) = Holds ed e × All ed es
 
 marked : List Example
 marked =
@@ -58,6 +60,8 @@ marked =
     ∷ scrambles 0 1 (2 ^ 0 + 2 ^ 39 + 2 ^ 58)
     ∷ []
 
-examples : All marked
-unfolding All Holds marked payload first encodeAnswer highControl highFrom carrier kindOf bit number mix push history sent scrambled mirror
-examples = (refl, (refl, (refl, (refl, (refl, (refl, (refl, (refl, (refl, (refl, (refl, (refl, tt))))))))))))
+-- they hold in both editions
+examples : (ed : Edition) → All ed marked
+unfolding All Holds marked payload first encodeAnswer highControl highFrom carrier kindFor kindOf bit number mix push history sent scrambled mirror
+examples Old = (refl, (refl, (refl, (refl, (refl, (refl, (refl, (refl, (refl, (refl, (refl, (refl, tt))))))))))))
+examples New = (refl, (refl, (refl, (refl, (refl, (refl, (refl, (refl, (refl, (refl, (refl, (refl, tt))))))))))))

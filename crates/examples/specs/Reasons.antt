@@ -3,19 +3,21 @@
 use mathlib.Core.Path.{_≡_, refl}
 use mathlib.Core.List.{List, [], _∷_}
 use Prim.Native.Nat.{ℕ}
+use Rattle.block.specs.declared.Edition.{Edition}
+use Rattle.block.specs.declared.Edition.the-variants.{Old, New}
 use Rattle.block.specs.declared.Reason.the-variants.{Header, BlockType, ControlCode, SetCode}
 use Rattle.block.specs.declared.Class.{Class}
 use Rattle.block.specs.declared.Class.the-variants as Class
-use Rattle.block.specs.Block.{classOf}
+use Rattle.block.specs.Block.{classOf, kindFor}
 use Rattle.examples.specs.Marked.{payload}
 
 -- a header, a payload by its bytes, and the class of the block
-data Example : Type 0 where
+pub data Example : Type 0 where
   says : ℕ → List ℕ → Class → Example
 
-All : List Example → Type 0
-All [] = Unit
-All (says header bytes class ∷ es) = (classOf header (payload bytes) ≡ class) × All es
+abbrev pub All : Edition → List Example → Type 0
+All ed [] = Unit
+All ed (says header bytes class ∷ es) = (classOf ed header (payload bytes) ≡ class) × All ed es
 
 reasons : List Example
 reasons =
@@ -43,6 +45,8 @@ reasons =
     ∷ says 2 (0x00 ∷ 0x01 ∷ []) Class.D
     ∷ []
 
-examples : All reasons
-unfolding All reasons payload classOf
-examples = (refl, (refl, (refl, (refl, (refl, (refl, (refl, (refl, (refl, (refl, (refl, tt)))))))))))
+-- they hold in both editions
+examples : (ed : Edition) → All ed reasons
+unfolding reasons payload classOf kindFor
+examples Old = (refl, (refl, (refl, (refl, (refl, (refl, (refl, (refl, (refl, (refl, (refl, tt)))))))))))
+examples New = (refl, (refl, (refl, (refl, (refl, (refl, (refl, (refl, (refl, (refl, (refl, tt)))))))))))

@@ -9,6 +9,8 @@ use lib.ListN.{length, drop, replicate}
 use lib.Dec.{ltb}
 use borrow.Author.Tests.{ltb-false}
 use Rattle.refusals.specs.First.{check, Verdict, accepted, refused, first, byVerdict}
+use Rattle.block.specs.declared.Edition.{Edition}
+use Rattle.block.specs.Block.{editionOf}
 use Rattle.receiving.specs.Answer.{ReceiveAnswer, received, receiveChecks, summaryOf, receiveAnswer, receiveRoom}
 use Rattle.receiving.specs.Answer as Answer
 use Rattle.receiving.specs.declared.Summary.{Summary}
@@ -22,123 +24,31 @@ abbrev pub verdictOf : ReceiveAnswer → Verdict
 verdictOf (received s) = accepted
 verdictOf (Answer.refused number place) = refused number place
 
-told : (v : Verdict) (line : List ℕ) → verdictOf (byVerdict v (received (summaryOf line)) Answer.refused) ≡ v
-told accepted line = refl
-told (refused n p) line = refl
-
-verdict-told : (line : List ℕ) (room : ℕ) → verdictOf (receiveAnswer line room) ≡ first (receiveChecks (length line) room)
-unfolding receiveAnswer
-verdict-told line room = told (first (receiveChecks (length line) room)) line
+told : (v : Verdict) (ed : Edition) (line : List ℕ) → verdictOf (byVerdict v (received (summaryOf ed line)) Answer.refused) ≡ v
+told accepted ed line = refl
+told (refused n p) ed line = refl
 
 -- a refusal's place is 0
-placed : (a b : Bool) (n p : ℕ) → first (check 1 a ∷ check 4 b ∷ []) ≡ refused n p → p ≡ 0
+placed : (z a b : Bool) (n p : ℕ) → first (check 13 z ∷ check 1 a ∷ check 4 b ∷ []) ≡ refused n p → p ≡ 0
 unfolding first
-placed true b n p e = cc
-placed false true n p e = cc
-placed false false n p e = cc
+placed true a b n p e = cc
+placed false true b n p e = cc
+placed false false true n p e = cc
+placed false false false n p e = cc
 
-place-zero : (line room n p : ℕ) → first (receiveChecks line room) ≡ refused n p → p ≡ 0
-unfolding receiveChecks
-place-zero line room n p e = placed (ltb 825000 line) (ltb room (10 * (8 * line / 66))) n p e
-
--- a slice too short: 1 comes before it, and it before all else
-shortened : (a b : Bool) → first (check 1 a ∷ check 4 true ∷ check 4 b ∷ []) ≡ refused (cond a 1 4) 0
+-- a slice too short: 13 and 1 come before it, and it before all else
+shortened : (z a b : Bool) → first (check 13 z ∷ check 1 a ∷ check 4 true ∷ check 4 b ∷ []) ≡ refused (cond z 13 (cond a 1 4)) 0
 unfolding first
-shortened true b = refl
-shortened false b = refl
+shortened true a b = refl
+shortened false true b = refl
+shortened false false b = refl
 
-shortly-one : (a b : Bool) → shortOf (first (check 1 a ∷ check 4 b ∷ [])) ≡ cond a 1 4
+shortly-one : (z a b : Bool) → shortOf (first (check 13 z ∷ check 1 a ∷ check 4 b ∷ [])) ≡ cond z 13 (cond a 1 4)
 unfolding first
-shortly-one true b = refl
-shortly-one false true = refl
-shortly-one false false = refl
-
-module _ (line room summary counters : ℕ) (short : shortSlice summary counters ≡ true) where
-  short-verdict : receiveVerdict line room summary counters ≡ refused (cond (ltb 825000 line) 1 4) 0
-  unfolding receiveVerdict receiveChecks
-  short-verdict =
-      ap (λ (b : Bool). first (check 1 (ltb 825000 line) ∷ check 4 b ∷ check 4 (ltb room (10 * (8 * line / 66))) ∷ [])) short
-      ∙ shortened (ltb 825000 line) (ltb room (10 * (8 * line / 66)))
-
-  short-result : shortOf (first (receiveChecks line 0)) ≡ receiveResult line room summary counters
-  unfolding receiveResult receiveChecks
-  short-result =
-      shortly-one (ltb 825000 line) (ltb 0 (10 * (8 * line / 66))) ∙ sym (add-zero (cond {A = ℕ} (ltb 825000 line) 1 4)) ∙ sym (ap resultOf short-verdict)
-
-pub short-answer : (line : List ℕ) (room summary counters : ℕ) (answer : ReceiveAnswer) → answer ≡ receiveAnswer line 0 → shortSlice summary counters ≡ true
-    → shortOf (verdictOf answer) ≡ receiveResult (length line) room summary counters
-short-answer line room summary counters answer e l =
-    ap shortOf (ap verdictOf e ∙ verdict-told line 0) ∙ short-result (length line) room summary counters l
-
--- a refusal's place fits a result
-pub small : (line : List ℕ) (room number place : ℕ) → Answer.refused number place ≡ receiveAnswer line room → place ≤ 1000000
-small line room number place e =
-    let z : place ≡ 0 = place-zero (length line) room number place (sym (ap verdictOf e ∙ verdict-told line room)) in
-    omega arith
-
--- ---- what a call comes to
-
-module _ (line room summary counters : List ℕ) where
-  -- by the verdict
-  abbrev verdict : Verdict
-  verdict = receiveVerdict (length line) (length room) (length summary) (length counters)
-
-  -- a refusal clears the summary and changes no other slice
-  refuses : (number place : ℕ) → verdict ≡ refused number place
-      → ReceivesThroughC line room summary counters (number + 256 * place) room (summaryWith receiveLength (replicate receiveLength 0) summary) counters
-  unfolding receiveResult receiveVectors receiveSummary receiveCounters
-  refuses number place v = (rw v, rw v, rw v, rw v)
-
-  -- with a slice too short
-  pub shortly : (r : ℕ) → shortSlice (length summary) (length counters) ≡ true → r ≡ receiveResult (length line) (length room) (length summary) (length counters)
-      → ReceivesThroughC line room summary counters r room (summaryWith receiveLength (replicate receiveLength 0) summary) counters
-  shortly r l e =
-      let t = refuses _ _ (short-verdict (length line) (length room) (length summary) (length counters) l) in
-      (e, t .1, t .2, t .3)
-
-  module _ (long : shortSlice (length summary) (length counters) ≡ false) where
-    -- with none too short, all goes by the checks of receiving
-    verdict-is : verdict ≡ first (receiveChecks (length line) (length room))
-    unfolding receiveVerdict
-    verdict-is = first-after 1 (check 4 (shortSlice (length summary) (length counters))) (receiveChecks (length line) (length room)) long
-
-    -- and both are long enough
-    neither : (a b : Bool) → a || b ≡ false → (a ≡ false) × (b ≡ false)
-    neither true b e = absurd (true≢false e)
-    neither false b e = (refl, e)
-
-    pub long-summary : 8 * receiveLength ≤ length summary
-    long-summary = ltb-false (length summary) (8 * receiveLength) (neither (tooShort 8 receiveLength (length summary)) (tooShort 4 8 (length counters)) long .0)
-
-    pub long-counters : 32 ≤ length counters
-    long-counters = ltb-false (length counters) 32 (neither (tooShort 8 receiveLength (length summary)) (tooShort 4 8 (length counters)) long .1)
-
-    -- a refusal
-    pub refused-so : (number place : ℕ) (room′ : List ℕ) → Answer.refused number place ≡ receiveAnswer line (length room) → room′ ≡ receiveRoom line room
-        → ReceivesThroughC line room summary counters (number + 256 * place) room′ (summaryWith receiveLength (replicate receiveLength 0) summary) counters
-    unfolding receiveRoom
-    refused-so number place room′ e r =
-        let c : first (receiveChecks (length line) (length room)) ≡ refused number place = sym (ap verdictOf e ∙ verdict-told line (length room)) in
-        let t = refuses number place (verdict-is ∙ c) in
-        (t .0, r ∙ rw c (t .1), t .2, t .3)
-
-    -- an answer
-    pub received-so : (s : Summary) (old new : Counters) (room′ summary′ counters′ : List ℕ) → received s ≡ receiveAnswer line (length room) → room′ ≡ receiveRoom line room
-        → summary′ ≡ wordBytes 8 (receiveWords (received s)) ++ drop (8 * receiveLength) summary
-        → old ≡ countersIn counters → new ≡ countersAfter old (receiveAnswer line (length room)) → counters′ ≡ countersWith new counters
-        → ReceivesThroughC line room summary counters 0 room′ summary′ counters′
-    unfolding receiveAnswer receiveResult receiveVectors receiveSummary receiveCounters
-    received-so s old new room′ summary′ counters′ e r w o n k =
-        let a : first (receiveChecks (length line) (length room)) ≡ accepted = sym (ap verdictOf e ∙ verdict-told line (length room)) in
-        let v : verdict ≡ accepted = verdict-is ∙ a in
-        let z : received s ≡ received (summaryOf line) = e ∙ ap (λ (u : Verdict). byVerdict u (received (summaryOf line)) Answer.refused) a in
-        let t : receiveAnswer line (length room) ≡ received (summaryOf line) = sym e ∙ z in (
-          sym (ap resultOf v),
-          r ∙ rw v refl,
-          w ∙ ap (λ (x : ReceiveAnswer). wordBytes 8 (receiveWords x) ++ drop (8 * receiveLength) summary) z
-              ∙ sym (summary-long receiveLength (receiveWords (received (summaryOf line))) summary long-summary) ∙ rw v refl,
-          k ∙ ap (λ (x : Counters). countersWith x counters) (n ∙ ap₂ countersAfter o t) ∙ rw v refl,
-        )
+shortly-one true a b = refl
+shortly-one false true b = refl
+shortly-one false false true = refl
+shortly-one false false false = refl
 
 -- the words, with the flags as they were made
 abbrev words : Summary → (l h a : ℕ) → List ℕ
@@ -150,3 +60,99 @@ pub flagged : (s : Summary) (l h a : ℕ) (rest summary : List ℕ) → l ≡ fl
     → summary ≡ wordBytes 8 (words s l h a) ++ rest → summary ≡ wordBytes 8 (receiveWords (received s)) ++ rest
 flagged s l h a rest summary e f g put =
     put ∙ ap₂ (λ (x y : ℕ). wordBytes 8 (words s x y a) ++ rest) e f ∙ ap (λ (z : ℕ). wordBytes 8 (words s (flagWord (s .locked)) (flagWord (s .high)) z) ++ rest) g
+
+module _ (edition : ℕ) where
+  verdict-told : (line : List ℕ) (room : ℕ) → verdictOf (receiveAnswer edition line room) ≡ first (receiveChecks edition (length line) room)
+  unfolding receiveAnswer
+  verdict-told line room = told (first (receiveChecks edition (length line) room)) (editionOf edition) line
+
+  place-zero : (line room n p : ℕ) → first (receiveChecks edition line room) ≡ refused n p → p ≡ 0
+  unfolding receiveChecks
+  place-zero line room n p e = placed (ltb 1 edition) (ltb 825000 line) (ltb room (10 * (8 * line / 66))) n p e
+
+  module _ (line room summary counters : ℕ) (short : shortSlice summary counters ≡ true) where
+    short-verdict : receiveVerdict edition line room summary counters ≡ refused (cond (ltb 1 edition) 13 (cond (ltb 825000 line) 1 4)) 0
+    unfolding receiveVerdict receiveChecks
+    short-verdict =
+        ap (λ (b : Bool). first (check 13 (ltb 1 edition) ∷ check 1 (ltb 825000 line) ∷ check 4 b ∷ check 4 (ltb room (10 * (8 * line / 66))) ∷ [])) short
+        ∙ shortened (ltb 1 edition) (ltb 825000 line) (ltb room (10 * (8 * line / 66)))
+
+    short-result : shortOf (first (receiveChecks edition line 0)) ≡ receiveResult edition line room summary counters
+    unfolding receiveResult receiveChecks
+    short-result =
+        shortly-one (ltb 1 edition) (ltb 825000 line) (ltb 0 (10 * (8 * line / 66))) ∙ sym (add-zero (cond {A = ℕ} (ltb 1 edition) 13 (cond (ltb 825000 line) 1 4))) ∙ sym (ap resultOf short-verdict)
+
+  pub short-answer : (line : List ℕ) (room summary counters : ℕ) (answer : ReceiveAnswer) → answer ≡ receiveAnswer edition line 0 → shortSlice summary counters ≡ true
+      → shortOf (verdictOf answer) ≡ receiveResult edition (length line) room summary counters
+  short-answer line room summary counters answer e l =
+      ap shortOf (ap verdictOf e ∙ verdict-told line 0) ∙ short-result (length line) room summary counters l
+
+  -- a refusal's place fits a result
+  pub small : (line : List ℕ) (room number place : ℕ) → Answer.refused number place ≡ receiveAnswer edition line room → place ≤ 1000000
+  small line room number place e =
+      let z : place ≡ 0 = place-zero (length line) room number place (sym (ap verdictOf e ∙ verdict-told line room)) in
+      omega arith
+
+  -- ---- what a call comes to
+
+  module _ (line room summary counters : List ℕ) where
+    -- by the verdict
+    abbrev verdict : Verdict
+    verdict = receiveVerdict edition (length line) (length room) (length summary) (length counters)
+
+    -- a refusal clears the summary and changes no other slice
+    refuses : (number place : ℕ) → verdict ≡ refused number place
+        → ReceivesThroughC edition line room summary counters (number + 256 * place) room (summaryWith receiveLength (replicate receiveLength 0) summary) counters
+    unfolding receiveResult receiveVectors receiveSummary receiveCounters
+    refuses number place v = (rw v, rw v, rw v, rw v)
+
+    -- with a slice too short
+    pub shortly : (r : ℕ) → shortSlice (length summary) (length counters) ≡ true → r ≡ receiveResult edition (length line) (length room) (length summary) (length counters)
+        → ReceivesThroughC edition line room summary counters r room (summaryWith receiveLength (replicate receiveLength 0) summary) counters
+    shortly r l e =
+        let t = refuses _ _ (short-verdict (length line) (length room) (length summary) (length counters) l) in
+        (e, t .1, t .2, t .3)
+
+    module _ (long : shortSlice (length summary) (length counters) ≡ false) where
+      -- with none too short, all goes by the checks of receiving
+      verdict-is : verdict ≡ first (receiveChecks edition (length line) (length room))
+      unfolding receiveVerdict
+      verdict-is = first-after 2 (check 4 (shortSlice (length summary) (length counters))) (receiveChecks edition (length line) (length room)) long
+
+      -- and both are long enough
+      neither : (a b : Bool) → a || b ≡ false → (a ≡ false) × (b ≡ false)
+      neither true b e = absurd (true≢false e)
+      neither false b e = (refl, e)
+
+      pub long-summary : 8 * receiveLength ≤ length summary
+      long-summary = ltb-false (length summary) (8 * receiveLength) (neither (tooShort 8 receiveLength (length summary)) (tooShort 4 8 (length counters)) long .0)
+
+      pub long-counters : 32 ≤ length counters
+      long-counters = ltb-false (length counters) 32 (neither (tooShort 8 receiveLength (length summary)) (tooShort 4 8 (length counters)) long .1)
+
+      -- a refusal
+      pub refused-so : (number place : ℕ) (room′ : List ℕ) → Answer.refused number place ≡ receiveAnswer edition line (length room) → room′ ≡ receiveRoom edition line room
+          → ReceivesThroughC edition line room summary counters (number + 256 * place) room′ (summaryWith receiveLength (replicate receiveLength 0) summary) counters
+      unfolding receiveRoom
+      refused-so number place room′ e r =
+          let c : first (receiveChecks edition (length line) (length room)) ≡ refused number place = sym (ap verdictOf e ∙ verdict-told line (length room)) in
+          let t = refuses number place (verdict-is ∙ c) in
+          (t .0, r ∙ rw c (t .1), t .2, t .3)
+
+      -- an answer
+      pub received-so : (s : Summary) (old new : Counters) (room′ summary′ counters′ : List ℕ) → received s ≡ receiveAnswer edition line (length room) → room′ ≡ receiveRoom edition line room
+          → summary′ ≡ wordBytes 8 (receiveWords (received s)) ++ drop (8 * receiveLength) summary
+          → old ≡ countersIn counters → new ≡ countersAfter old (receiveAnswer edition line (length room)) → counters′ ≡ countersWith new counters
+          → ReceivesThroughC edition line room summary counters 0 room′ summary′ counters′
+      unfolding receiveAnswer receiveResult receiveVectors receiveSummary receiveCounters
+      received-so s old new room′ summary′ counters′ e r w o n k =
+          let a : first (receiveChecks edition (length line) (length room)) ≡ accepted = sym (ap verdictOf e ∙ verdict-told line (length room)) in
+          let v : verdict ≡ accepted = verdict-is ∙ a in
+          let z : received s ≡ received (summaryOf (editionOf edition) line) = e ∙ ap (λ (u : Verdict). byVerdict u (received (summaryOf (editionOf edition) line)) Answer.refused) a in
+          let t : receiveAnswer edition line (length room) ≡ received (summaryOf (editionOf edition) line) = sym e ∙ z in (
+            sym (ap resultOf v),
+            r ∙ rw v refl,
+            w ∙ ap (λ (x : ReceiveAnswer). wordBytes 8 (receiveWords x) ++ drop (8 * receiveLength) summary) z
+                ∙ sym (summary-long receiveLength (receiveWords (received (summaryOf (editionOf edition) line))) summary long-summary) ∙ rw v refl,
+            k ∙ ap (λ (x : Counters). countersWith x counters) (n ∙ ap₂ countersAfter o t) ∙ rw v refl,
+          )

@@ -10,6 +10,7 @@ use lib.ListN.{length, take, drop, replicate}
 use lib.Dec.{ltb}
 use Rattle.bits.specs.Bits.{bit, number, lineBit, cut}
 use Rattle.refusals.specs.First.{Check, check, Verdict, accepted, refused, first, byVerdict}
+use Rattle.block.specs.Block.{editionOf}
 use Rattle.sending.specs.Answer as Send
 use Rattle.receiving.specs.Answer as Receive
 use Rattle.counters.specs.Counters.{updated}
@@ -38,34 +39,34 @@ tooShort k n bytes = ltb bytes (k * n)
 unfoldable pub summaryWith : ℕ → List ℕ → List ℕ → List ℕ
 summaryWith n words summary = cond (tooShort 8 n (length summary)) summary (wordBytes 8 words ++ drop (8 * n) summary)
 
--- ---- sending: refusals 1, 2, 3, then 4 for the summary or the room, then 5
+-- ---- sending: refusals 13, 1, 2, 3, then 4 for the summary or the room, then 5
 
-unfoldable pub sendVerdict : List ℕ → (start room summary : ℕ) → Verdict
-sendVerdict vectors start room summary = first (after 3 (check 4 (tooShort 8 3 summary)) (Send.sendChecks vectors start room))
+unfoldable pub sendVerdict : (edition : ℕ) → List ℕ → (start room summary : ℕ) → Verdict
+sendVerdict edition vectors start room summary = first (after 4 (check 4 (tooShort 8 3 summary)) (Send.sendChecks edition vectors start room))
 
 -- its three words: end state, end diagram state, replaced; zeros for a refusal
 abbrev pub sendWords : Send.SendAnswer → List ℕ
 sendWords (Send.sent state diagram replaced) = state ∷ diagram ∷ replaced ∷ []
 sendWords (Send.refused number place) = 0 ∷ 0 ∷ 0 ∷ []
 
-unfoldable pub sendResult : List ℕ → (start room summary : ℕ) → ℕ
-sendResult vectors start room summary = resultOf (sendVerdict vectors start room summary)
+unfoldable pub sendResult : (edition : ℕ) → List ℕ → (start room summary : ℕ) → ℕ
+sendResult edition vectors start room summary = resultOf (sendVerdict edition vectors start room summary)
 
 -- the room and the summary afterwards: a refusal leaves the room as it was
-unfoldable pub sendLine : List ℕ → ℕ → List ℕ → (summary : ℕ) → List ℕ
-sendLine vectors start room summary =
-    byVerdict (sendVerdict vectors start (length room) summary) (Send.sendRoom vectors start room) (λ number place. room)
+unfoldable pub sendLine : (edition : ℕ) → List ℕ → ℕ → List ℕ → (summary : ℕ) → List ℕ
+sendLine edition vectors start room summary =
+    byVerdict (sendVerdict edition vectors start (length room) summary) (Send.sendRoom edition vectors start room) (λ number place. room)
 
-unfoldable pub sendSummary : List ℕ → (start room : ℕ) → List ℕ → List ℕ
-sendSummary vectors start room summary =
-    summaryWith 3 (sendWords (byVerdict (sendVerdict vectors start room (length summary)) (Send.sentFor vectors start) Send.refused)) summary
+unfoldable pub sendSummary : (edition : ℕ) → List ℕ → (start room : ℕ) → List ℕ → List ℕ
+sendSummary edition vectors start room summary =
+    summaryWith 3 (sendWords (byVerdict (sendVerdict edition vectors start room (length summary)) (Send.sentFor (editionOf edition) vectors start) Send.refused)) summary
 
 -- the promise: `holzmotte_send` was lent `room` and `summary`, returned `r` and left `room′` and `summary′`
-abbrev pub SendsThroughC : (vectors : List ℕ) (start : ℕ) (room summary : List ℕ) (r : ℕ) (room′ summary′ : List ℕ) → Type 0
-SendsThroughC vectors start room summary r room′ summary′ =
-    (r ≡ sendResult vectors start (length room) (length summary))
-    × (room′ ≡ sendLine vectors start room (length summary))
-    × (summary′ ≡ sendSummary vectors start (length room) summary)
+abbrev pub SendsThroughC : (edition : ℕ) (vectors : List ℕ) (start : ℕ) (room summary : List ℕ) (r : ℕ) (room′ summary′ : List ℕ) → Type 0
+SendsThroughC edition vectors start room summary r room′ summary′ =
+    (r ≡ sendResult edition vectors start (length room) (length summary))
+    × (room′ ≡ sendLine edition vectors start room (length summary))
+    × (summary′ ≡ sendSummary edition vectors start (length room) summary)
 
 -- ---- the counters: eight words of 32 bits
 
@@ -94,7 +95,7 @@ counterWords c = c .tested ∷ c .slips ∷ c .headers ∷ c .types ∷ c .codes
 abbrev pub countersWith : Counters → List ℕ → List ℕ
 countersWith c bytes = wordBytes 4 (counterWords c) ++ drop 32 bytes
 
--- ---- receiving: refusal 1, then 4 for the summary, the counters or the room
+-- ---- receiving: refusals 13, 1, then 4 for the summary, the counters or the room
 
 -- its summary has twelve words
 abbrev pub receiveLength : ℕ
@@ -104,8 +105,8 @@ receiveLength = 12
 abbrev pub shortSlice : (summary counters : ℕ) → Bool
 shortSlice summary counters = tooShort 8 receiveLength summary || tooShort 4 8 counters
 
-unfoldable pub receiveVerdict : (line room summary counters : ℕ) → Verdict
-receiveVerdict line room summary counters = first (after 1 (check 4 (shortSlice summary counters)) (Receive.receiveChecks line room))
+unfoldable pub receiveVerdict : (edition line room summary counters : ℕ) → Verdict
+receiveVerdict edition line room summary counters = first (after 2 (check 4 (shortSlice summary counters)) (Receive.receiveChecks edition line room))
 
 -- 1 for true, 0 for false
 abbrev pub flagWord : Bool → ℕ
@@ -120,30 +121,30 @@ receiveWords (Receive.received s) =
     ∷ s .handed .begun ∷ s .handed .replaced ∷ []
 receiveWords (Receive.refused number place) = replicate receiveLength 0
 
-unfoldable pub receiveResult : (line room summary counters : ℕ) → ℕ
-receiveResult line room summary counters = resultOf (receiveVerdict line room summary counters)
+unfoldable pub receiveResult : (edition line room summary counters : ℕ) → ℕ
+receiveResult edition line room summary counters = resultOf (receiveVerdict edition line room summary counters)
 
 -- the room, the summary and the counters afterwards: a refusal leaves the room and the counters as they were
-unfoldable pub receiveVectors : (line room : List ℕ) → (summary counters : ℕ) → List ℕ
-receiveVectors line room summary counters =
-    byVerdict (receiveVerdict (length line) (length room) summary counters) (Receive.receiveRoom line room) (λ number place. room)
+unfoldable pub receiveVectors : (edition : ℕ) (line room : List ℕ) → (summary counters : ℕ) → List ℕ
+receiveVectors edition line room summary counters =
+    byVerdict (receiveVerdict edition (length line) (length room) summary counters) (Receive.receiveRoom edition line room) (λ number place. room)
 
-unfoldable pub receiveSummary : List ℕ → (room : ℕ) → List ℕ → (counters : ℕ) → List ℕ
-receiveSummary line room summary counters =
+unfoldable pub receiveSummary : (edition : ℕ) → List ℕ → (room : ℕ) → List ℕ → (counters : ℕ) → List ℕ
+receiveSummary edition line room summary counters =
     summaryWith receiveLength
-    (receiveWords (byVerdict (receiveVerdict (length line) room (length summary) counters) (Receive.received (Receive.summaryOf line)) Receive.refused))
+    (receiveWords (byVerdict (receiveVerdict edition (length line) room (length summary) counters) (Receive.received (Receive.summaryOf (editionOf edition) line)) Receive.refused))
     summary
 
-unfoldable pub receiveCounters : List ℕ → (room summary : ℕ) → List ℕ → List ℕ
-receiveCounters line room summary counters =
-    let s = Receive.summaryOf line in
-    byVerdict (receiveVerdict (length line) room summary (length counters))
+unfoldable pub receiveCounters : (edition : ℕ) → List ℕ → (room summary : ℕ) → List ℕ → List ℕ
+receiveCounters edition line room summary counters =
+    let s = Receive.summaryOf (editionOf edition) line in
+    byVerdict (receiveVerdict edition (length line) room summary (length counters))
     (countersWith (updated (countersIn counters) (s .counts) (s .handed)) counters) (λ number place. counters)
 
 -- the promise: `holzmotte_receive` was lent `room`, `summary` and `counters`, returned `r` and left `room′`, `summary′` and `counters′`
-abbrev pub ReceivesThroughC : (line room summary counters : List ℕ) (r : ℕ) (room′ summary′ counters′ : List ℕ) → Type 0
-ReceivesThroughC line room summary counters r room′ summary′ counters′ =
-    (r ≡ receiveResult (length line) (length room) (length summary) (length counters))
-    × (room′ ≡ receiveVectors line room (length summary) (length counters))
-    × (summary′ ≡ receiveSummary line (length room) summary (length counters))
-    × (counters′ ≡ receiveCounters line (length room) (length summary) counters)
+abbrev pub ReceivesThroughC : (edition : ℕ) (line room summary counters : List ℕ) (r : ℕ) (room′ summary′ counters′ : List ℕ) → Type 0
+ReceivesThroughC edition line room summary counters r room′ summary′ counters′ =
+    (r ≡ receiveResult edition (length line) (length room) (length summary) (length counters))
+    × (room′ ≡ receiveVectors edition line room (length summary) (length counters))
+    × (summary′ ≡ receiveSummary edition line (length room) summary (length counters))
+    × (counters′ ≡ receiveCounters edition line (length room) (length summary) counters)

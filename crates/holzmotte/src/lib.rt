@@ -48,11 +48,11 @@ fn flag(b: bool) -> u64
 }
 
 // The result where the summary is too short: what sending into no room is refused for, or else 4.
-fn send_short(vectors: &[u8], start: u64) -> u64
-    ensures { λ r. ⌜ ((room summary : ℕ) → summary < 24 → r ≡ sendResult (now (vectors .entry)) start room summary) ⌝ }
+fn send_short(edition: u64, vectors: &[u8], start: u64) -> u64
+    ensures { λ r. ⌜ ((room summary : ℕ) → summary < 24 → r ≡ sendResult edition (now (vectors .entry)) start room summary) ⌝ }
 {
     let mut none = [0u8; 0];
-    match send(vectors, start, &mut none) {
+    match send(edition, vectors, start, &mut none) {
         Sent::Done(_) => 4,
         Sent::Refused(why, place) => refusal(why, place),
     }
@@ -61,17 +61,18 @@ fn send_short(vectors: &[u8], start: u64) -> u64
 // Sends a list of vectors: the line's bytes go to the start of the room, three words to the summary.
 #[no_mangle]
 pub extern "C" fn holzmotte_send(
+    edition: u64,
     vectors: &[u8],
     start: u64,
     line: &mut [u8],
     summary: &mut [u8],
 ) -> u64
-    ensures { λ r. ⌜ SendsThroughC (now (vectors .entry)) start (now (line .entry)) (now (summary .entry)) r (now (line .exit)) (now (summary .exit)) ⌝ }
+    ensures { λ r. ⌜ SendsThroughC edition (now (vectors .entry)) start (now (line .entry)) (now (summary .entry)) r (now (line .exit)) (now (summary .exit)) ⌝ }
 {
     if summary.len() < 24 {
-        return send_short(vectors, start);
+        return send_short(edition, vectors, start);
     }
-    match send(vectors, start, line) {
+    match send(edition, vectors, start, line) {
         Sent::Done(s) => {
             put_words(summary, &[s.state, s.diagram, s.replaced]);
             0
@@ -173,11 +174,11 @@ fn clear(summary: &mut [u8])
 }
 
 // The result where one of the two is too short: what receiving into no room is refused for, or else 4.
-fn receive_short(line: &[u8]) -> u64
-    ensures { λ r. ⌜ ((room summary counters : ℕ) → shortSlice summary counters ≡ true → r ≡ receiveResult (length (now (line .entry))) room summary counters) ⌝ }
+fn receive_short(edition: u64, line: &[u8]) -> u64
+    ensures { λ r. ⌜ ((room summary counters : ℕ) → shortSlice summary counters ≡ true → r ≡ receiveResult edition (length (now (line .entry))) room summary counters) ⌝ }
 {
     let mut none = [0u8; 0];
-    match receive(line, &mut none) {
+    match receive(edition, line, &mut none) {
         Received::Done(_) => 4,
         Received::Refused(why, place) => refusal(why, place),
     }
@@ -186,18 +187,19 @@ fn receive_short(line: &[u8]) -> u64
 // Receives a line: a vector for each tested block goes to the room, twelve words to the summary, and what was counted is added to the counters.
 #[no_mangle]
 pub extern "C" fn holzmotte_receive(
+    edition: u64,
     line: &[u8],
     vectors: &mut [u8],
     summary: &mut [u8],
     counters: &mut [u8],
 ) -> u64
-    ensures { λ r. ⌜ ReceivesThroughC (now (line .entry)) (now (vectors .entry)) (now (summary .entry)) (now (counters .entry)) r (now (vectors .exit)) (now (summary .exit)) (now (counters .exit)) ⌝ }
+    ensures { λ r. ⌜ ReceivesThroughC edition (now (line .entry)) (now (vectors .entry)) (now (summary .entry)) (now (counters .entry)) r (now (vectors .exit)) (now (summary .exit)) (now (counters .exit)) ⌝ }
 {
     if short_slice(summary.len(), counters.len()) {
         clear(summary);
-        return receive_short(line);
+        return receive_short(edition, line);
     }
-    let r = receive_by_value(line, vectors, load_counters(counters));
+    let r = receive_by_value(edition, line, vectors, load_counters(counters));
     let answer = r.answer;
     let after = r.counters;
     match answer {

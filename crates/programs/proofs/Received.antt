@@ -14,6 +14,8 @@ use Rattle.display.specs.Display.{hexLines, summaryLines, refusedLine, inputFai
 use Rattle.display.proofs.Laws.{lines-length, summary-length, refused-length}
 use Rattle.bits.specs.Bits.{lineBits}
 use Rattle.diagrams.specs.declared.State.the-variants.{Init}
+use Rattle.block.specs.declared.Edition.the-variants.{Old}
+use Rattle.block.specs.Block.{editionOf}
 use Rattle.receiving.specs.Machine.{at, linkFresh}
 use Rattle.receiving.specs.Receive.{runOf, vectorsOf, receivedVectors}
 use Rattle.receiving.proofs.Count.{length-answers, tens-run, length-vectors, vectors-fit}
@@ -23,9 +25,9 @@ use Rattle.programs.specs.Programs.{receivedText, receiverOutput}
 use Rattle.programs.proofs.Outcomes.{body-first, Program}
 
 -- Each vector has ten bytes.
-tens : (line : List ℕ) → length (receivedVectors line) ≡ 10 * length (vectorsOf line)
+tens : (line : List ℕ) → length (receivedVectors Old line) ≡ 10 * length (vectorsOf Old line)
 unfolding receivedVectors vectorsOf runOf
-tens line = length-vectors Init (tens-run (at linkFresh) (lineBits line)) ∙ ap (λ (n : ℕ). 10 * n) (sym (length-answers Init (runOf line .tested)))
+tens line = length-vectors Init (tens-run (at (linkFresh Old)) (lineBits line)) ∙ ap (λ (n : ℕ). 10 * n) (sym (length-answers Init (runOf Old line .tested)))
 
 -- An answer that is no refusal was accepted, and is the answer for the line.
 accepted-by : (v : Verdict) (x : ReceiveAnswer) (z : Summary) → received z ≡ byVerdict v x refused → (v ≡ accepted) × (received z ≡ x)
@@ -35,13 +37,13 @@ accepted-by (refuses m p) x z e = absurd (let z : _≡_ {A = ℕ} 0 1 = cc in om
 -- All that the receiver writes fits.
 summary-fits : (line : List ℕ) (x : ReceiveAnswer) → length line ≤ 49500 → length (receivedText line x) ≤ 126109
 summary-fits line (received z) f =
-    omega (arith, length-append (hexLines (receivedVectors line)) (summaryLines (z .counts .tested) (z .counts .slips) (z .locked) (z .high)), lines-length (receivedVectors line), summary-length (z .counts .tested) (z .counts .slips) (z .locked) (z .high), vectors-fit line)
+    omega (arith, length-append (hexLines (receivedVectors Old line)) (summaryLines (z .counts .tested) (z .counts .slips) (z .locked) (z .high)), lines-length (receivedVectors Old line), summary-length (z .counts .tested) (z .counts .slips) (z .locked) (z .high), vectors-fit Old line)
 summary-fits line (refused n p) f = omega (arith, refused-length n)
 
 -- All of it fits the output.
 receiver-short : (g : Gathered) → length (bytesIn g) ≤ 49500 → length (receiverOutput g) ≤ 126109
 unfolding receiverOutput inputFailedLine
-receiver-short (done line) h = summary-fits line (receiveAnswer line 60000) h
+receiver-short (done line) h = summary-fits line (receiveAnswer 0 line 60000) h
 receiver-short (stop n b) h = omega (arith, refused-length n)
 receiver-short (failed b) h = omega arith
 receiver-short (more b) h = omega arith
@@ -53,35 +55,35 @@ receiver-program = record { refusal = λ n b. refl; failure = λ b. refl; endles
 
 module _ (line vectors : List ℕ) (room : length vectors ≡ 60000) where
   module _ (after : List ℕ) (z : Summary)
-      (e : received z ≡ receiveAnswer line (length vectors)) (s : after ≡ receiveRoom line vectors) (same : length after ≡ length vectors) where
+      (e : received z ≡ receiveAnswer 0 line (length vectors)) (s : after ≡ receiveRoom 0 line vectors) (same : length after ≡ length vectors) where
     -- The line was accepted, and this is its answer.
-    answered : (first (receiveChecks (length line) (length vectors)) ≡ accepted) × (received z ≡ received (summaryOf line))
-    unfolding receiveAnswer
-    answered = accepted-by (first (receiveChecks (length line) (length vectors))) (received (summaryOf line)) z e
+    answered : (first (receiveChecks 0 (length line) (length vectors)) ≡ accepted) × (received z ≡ received (summaryOf Old line))
+    unfolding receiveAnswer editionOf
+    answered = accepted-by (first (receiveChecks 0 (length line) (length vectors))) (received (summaryOf Old line)) z e
 
     -- What receiving left in the room.
-    room-is : after ≡ receivedVectors line ++ drop (length (receivedVectors line)) vectors
-    unfolding receiveRoom
+    room-is : after ≡ receivedVectors Old line ++ drop (length (receivedVectors Old line)) vectors
+    unfolding receiveRoom editionOf
     room-is = s ∙ rw (answered .0)
 
     -- So many vectors were received.
-    pub vectors-count : 10 * z .vectors ≡ length (receivedVectors line)
+    pub vectors-count : 10 * z .vectors ≡ length (receivedVectors Old line)
     unfolding summaryOf
     vectors-count =
-        let a : received z ≡ received (summaryOf line) = answered .1 in
-        let s : z ≡ summaryOf line = cc in
-        let k : z .vectors ≡ length (vectorsOf line) = ap (λ (y : Summary). y .vectors) s in
+        let a : received z ≡ received (summaryOf Old line) = answered .1 in
+        let s : z ≡ summaryOf Old line = cc in
+        let k : z .vectors ≡ length (vectorsOf Old line) = ap (λ (y : Summary). y .vectors) s in
         omega (arith, tens line)
 
     -- They are no more than the room holds.
     pub vectors-small : 10 * z .vectors ≤ 60000
     vectors-small =
-        let l = ap length room-is ∙ length-append (receivedVectors line) (drop (length (receivedVectors line)) vectors) in
-        omega (arith, vectors-count, length-drop (length (receivedVectors line)) vectors)
+        let l = ap length room-is ∙ length-append (receivedVectors Old line) (drop (length (receivedVectors Old line)) vectors) in
+        omega (arith, vectors-count, length-drop (length (receivedVectors Old line)) vectors)
 
     -- Receiving succeeded: the vectors stand at the start of the room.
-    vectors-are : bodyOf after 0 (10 * z .vectors) ≡ receivedVectors line
-    vectors-are = body-first (receivedVectors line) (drop (length (receivedVectors line)) vectors) after (10 * z .vectors) room-is vectors-count
+    vectors-are : bodyOf after 0 (10 * z .vectors) ≡ receivedVectors Old line
+    vectors-are = body-first (receivedVectors Old line) (drop (length (receivedVectors Old line)) vectors) after (10 * z .vectors) room-is vectors-count
 
     module _ (body : List ℕ) (b : body ≡ bodyOf after 0 (10 * z .vectors)) where
       -- Their lines fit the output.
@@ -98,13 +100,13 @@ module _ (line vectors : List ℕ) (room : length vectors ≡ 60000) where
         unfolding receiverOutput
         received-written exit r f v =
             let w₁ = subst (λ (x : List ℕ). Writes 0 (hexLines x) out k mid) (b ∙ vectors-are) w in
-            subst (λ (x : ReceiveAnswer). Writes 0 (receivedText line x) out r exit) (e ∙ ap (receiveAnswer line) room)
-            (writes-on 0 k r (hexLines (receivedVectors line)) (summaryLines (z .counts .tested) (z .counts .slips) (z .locked) (z .high)) out mid exit w₁ v
+            subst (λ (x : ReceiveAnswer). Writes 0 (receivedText line x) out r exit) (e ∙ ap (receiveAnswer 0 line) room)
+            (writes-on 0 k r (hexLines (receivedVectors Old line)) (summaryLines (z .counts .tested) (z .counts .slips) (z .locked) (z .high)) out mid exit w₁ v
             (omega (arith, w₁ .ends, v .ends, lines-end, summary-length (z .counts .tested) (z .counts .slips) (z .locked) (z .high))))
 
   -- Receiving refused: its line is what the receiver writes.
-  pub refused-written : (out exit : List ℕ) (r n p : ℕ) → refused n p ≡ receiveAnswer line (length vectors)
+  pub refused-written : (out exit : List ℕ) (r n p : ℕ) → refused n p ≡ receiveAnswer 0 line (length vectors)
       → Writes 0 (refusedLine n) out r exit → Writes 0 (receiverOutput (done line)) out r exit
   unfolding receiverOutput
   refused-written out exit r n p e w =
-      subst (λ (x : ReceiveAnswer). Writes 0 (receivedText line x) out r exit) (e ∙ ap (receiveAnswer line) room) w
+      subst (λ (x : ReceiveAnswer). Writes 0 (receivedText line x) out r exit) (e ∙ ap (receiveAnswer 0 line) room) w

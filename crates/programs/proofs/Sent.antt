@@ -12,13 +12,15 @@ use Rattle.records.specs.Record.{bodyOf}
 use Rattle.gather.specs.Gather.{Gathered, more, done, stop, failed, bytesIn}
 use Rattle.display.specs.Display.{lineRecords, refusedLine, inputFailedLine}
 use Rattle.display.proofs.Laws.{records-length, refused-length}
+use Rattle.block.specs.declared.Edition.the-variants.{Old}
+use Rattle.block.specs.Block.{editionOf}
 use Rattle.sending.specs.Send.{sentLine}
 use Rattle.sending.specs.Answer.{SendAnswer, sent, refused, sendChecks, sendAnswer, sendRoom}
 use Rattle.programs.specs.Programs.{sentText, senderOutput}
 use Rattle.programs.proofs.Outcomes.{body-first, Program}
 
 -- Four vectors give 33 line bytes.
-line-length : (vectors : List ℕ) (start : ℕ) → length (sentLine vectors start) ≡ 33 * (length vectors / 40)
+line-length : (vectors : List ℕ) (start : ℕ) → length (sentLine Old vectors start) ≡ 33 * (length vectors / 40)
 unfolding sentLine
 line-length vectors start = length-cut 8 (33 * (length vectors / 40)) _
 
@@ -28,8 +30,8 @@ accepted-by accepted x a b c e = refl
 accepted-by (refuses n p) x a b c e = absurd (let z : _≡_ {A = ℕ} 0 1 = cc in omega arith)
 
 -- The records of the line fit, and so does all that the sender writes.
-pub records-fit : (vectors : List ℕ) → length vectors ≤ 60000 → length (lineRecords 4092 (sentLine vectors 0)) ≤ 49552
-records-fit vectors h = let l = line-length vectors 0 in omega (arith, records-length (sentLine vectors 0))
+pub records-fit : (vectors : List ℕ) → length vectors ≤ 60000 → length (lineRecords 4092 (sentLine Old vectors 0)) ≤ 49552
+records-fit vectors h = let l = line-length vectors 0 in omega (arith, records-length (sentLine Old vectors 0))
 
 -- The same of a refusal's line.
 text-short : (vectors : List ℕ) (x : SendAnswer) → length vectors ≤ 60000 → length (sentText vectors x) ≤ 49552
@@ -39,7 +41,7 @@ text-short vectors (refused n p) h = omega (arith, refused-length n)
 -- All of it fits the output.
 sender-short : (g : Gathered) → length (bytesIn g) ≤ 60000 → length (senderOutput g) ≤ 49552
 unfolding senderOutput inputFailedLine
-sender-short (done vectors) h = text-short vectors (sendAnswer vectors 0 49500) h
+sender-short (done vectors) h = text-short vectors (sendAnswer 0 vectors 0 49500) h
 sender-short (stop n b) h = omega (arith, refused-length n)
 sender-short (failed b) h = omega arith
 sender-short (more b) h = omega arith
@@ -51,17 +53,17 @@ sender-program = record { refusal = λ n b. refl; failure = λ b. refl; endless 
 
 module _ (vectors line : List ℕ) (room : length line ≡ 49500) where
   -- Sending succeeded: the line stands at the start of the room.
-  line-is : (after : List ℕ) (a b c : ℕ) → sent a b c ≡ sendAnswer vectors 0 (length line) → after ≡ sendRoom vectors 0 line → bodyOf after 0 (length vectors / 40 * 33) ≡ sentLine vectors 0
-  unfolding sendAnswer sendRoom
+  line-is : (after : List ℕ) (a b c : ℕ) → sent a b c ≡ sendAnswer 0 vectors 0 (length line) → after ≡ sendRoom 0 vectors 0 line → bodyOf after 0 (length vectors / 40 * 33) ≡ sentLine Old vectors 0
+  unfolding sendAnswer sendRoom editionOf
   line-is after a b c e s =
-      let v = accepted-by (first (sendChecks vectors 0 (length line))) _ a b c e in
-      let t : after ≡ sentLine vectors 0 ++ drop (length (sentLine vectors 0)) line = s ∙ rw v in
-      body-first (sentLine vectors 0) (drop (length (sentLine vectors 0)) line) after (length vectors / 40 * 33) t (omega (arith, line-length vectors 0))
+      let v = accepted-by (first (sendChecks 0 vectors 0 (length line))) _ a b c e in
+      let t : after ≡ sentLine Old vectors 0 ++ drop (length (sentLine Old vectors 0)) line = s ∙ rw v in
+      body-first (sentLine Old vectors 0) (drop (length (sentLine Old vectors 0)) line) after (length vectors / 40 * 33) t (omega (arith, line-length vectors 0))
 
-  module _ (after : List ℕ) (a b c : ℕ) (e : sent a b c ≡ sendAnswer vectors 0 (length line)) (s : after ≡ sendRoom vectors 0 line)
+  module _ (after : List ℕ) (a b c : ℕ) (e : sent a b c ≡ sendAnswer 0 vectors 0 (length line)) (s : after ≡ sendRoom 0 vectors 0 line)
       (body : List ℕ) (t : body ≡ bodyOf after 0 (length vectors / 40 * 33)) where
     -- What is handed on is the line.
-    body-is : body ≡ sentLine vectors 0
+    body-is : body ≡ sentLine Old vectors 0
     body-is = t ∙ line-is after a b c e s
 
     -- Its records fit the output.
@@ -72,12 +74,12 @@ module _ (vectors line : List ℕ) (room : length line ≡ 49500) where
     pub sent-written : (out exit : List ℕ) (r : ℕ) → Writes 0 (lineRecords 4092 body) out r exit → Writes 0 (senderOutput (done vectors)) out r exit
     unfolding senderOutput
     sent-written out exit r w =
-        subst (λ (x : SendAnswer). Writes 0 (sentText vectors x) out r exit) (e ∙ ap (sendAnswer vectors 0) room)
+        subst (λ (x : SendAnswer). Writes 0 (sentText vectors x) out r exit) (e ∙ ap (sendAnswer 0 vectors 0) room)
         (subst (λ (x : List ℕ). Writes 0 (lineRecords 4092 x) out r exit) body-is w)
 
   -- Sending refused: its line is what the sender writes.
-  pub refused-written : (out exit : List ℕ) (r n p : ℕ) → refused n p ≡ sendAnswer vectors 0 (length line)
+  pub refused-written : (out exit : List ℕ) (r n p : ℕ) → refused n p ≡ sendAnswer 0 vectors 0 (length line)
       → Writes 0 (refusedLine n) out r exit → Writes 0 (senderOutput (done vectors)) out r exit
   unfolding senderOutput
   refused-written out exit r n p e w =
-      subst (λ (x : SendAnswer). Writes 0 (sentText vectors x) out r exit) (e ∙ ap (sendAnswer vectors 0) room) w
+      subst (λ (x : SendAnswer). Writes 0 (sentText vectors x) out r exit) (e ∙ ap (sendAnswer 0 vectors 0) room) w

@@ -1,4 +1,4 @@
--- Document 01, 'The two programs': the bytes that each writes, by what it gathered.
+-- Document 01, 'The two programs': the bytes that each writes, by what it gathered. Both stay with the old edition, number 0 (9/13).
 use Prim.Native.Nat.{ℕ}
 use mathlib.Core.List.{List, [], _++_}
 use Rattle.refusals.specs.Number.{numberOf}
@@ -9,6 +9,7 @@ use Rattle.gather.specs.File.{gatheredFrom, after, InTurn}
 use Rattle.gather.specs.declared.Step.{Step}
 use Rattle.gather.specs.declared.Step.the-variants as Case
 use Rattle.display.specs.Display.{lineRecords, hexLines, summaryLines, refusedLine, inputFailedLine}
+use Rattle.block.specs.declared.Edition.the-variants.{Old}
 use Rattle.sending.specs.Send.{sentLine}
 use Rattle.sending.specs.Answer.{SendAnswer, sent, refused, sendAnswer}
 use Rattle.receiving.specs.Receive.{receivedVectors}
@@ -24,24 +25,24 @@ lineBytes = 49500
 
 -- "one line record after another of 4,092 bytes"; or a refusal's line
 abbrev pub sentText : (vectors : List ℕ) → SendAnswer → List ℕ
-sentText vectors (sent endState diagram replaced) = lineRecords 4092 (sentLine vectors 0)
+sentText vectors (sent endState diagram replaced) = lineRecords 4092 (sentLine Old vectors 0)
 sentText vectors (refused number place) = refusedLine number
 
 -- the sender: "start state 0"; "a refusal prints one line and nothing else"; so does a failed read, and no end in 2^64 - 1 records
 unfoldable pub senderOutput : Gathered → List ℕ
-senderOutput (done vectors) = sentText vectors (sendAnswer vectors 0 lineBytes)
+senderOutput (done vectors) = sentText vectors (sendAnswer 0 vectors 0 lineBytes)
 senderOutput (stop number before) = refusedLine number
 senderOutput (failed before) = inputFailedLine
 senderOutput (more before) = inputFailedLine
 
 -- "prints each vector as 20 hex digits, then four lines"; or a refusal's line
 abbrev pub receivedText : (line : List ℕ) → ReceiveAnswer → List ℕ
-receivedText line (received s) = hexLines (receivedVectors line) ++ summaryLines (s .counts .tested) (s .counts .slips) (s .locked) (s .high)
+receivedText line (received s) = hexLines (receivedVectors Old line) ++ summaryLines (s .counts .tested) (s .counts .slips) (s .locked) (s .high)
 receivedText line (receiveRefused number place) = refusedLine number
 
 -- the receiver
 unfoldable pub receiverOutput : Gathered → List ℕ
-receiverOutput (done line) = receivedText line (receiveAnswer line vectorBytes)
+receiverOutput (done line) = receivedText line (receiveAnswer 0 line vectorBytes)
 receiverOutput (stop number before) = refusedLine number
 receiverOutput (failed before) = inputFailedLine
 receiverOutput (more before) = inputFailedLine

@@ -26,7 +26,7 @@ fn sent_output(vectors: &[u8], line: &mut [u8], out: &mut [u8]) -> usize
     requires { ⌜ (length (now vectors) ≤ 60000) × (length (now line) ≡ 49500) × (49552 ≤ length (now out)) ⌝ }
     ensures { λ r. ⌜ Writes 0 (senderOutput (done (now (vectors .entry)))) (now (out .entry)) r (now (out .exit)) ⌝ }
 {
-    match sending::send(vectors, 0, line) {
+    match sending::send(0, vectors, 0, line) {
         Sent::Done(_) => {
             let n = vectors.len() / 40 * 33;
             display::line_records(records::body(line, 0, n), out, 0)
@@ -79,7 +79,7 @@ fn received_output(line: &[u8], vectors: &mut [u8], out: &mut [u8]) -> usize
     requires { ⌜ (length (now vectors) ≡ 60000) × (126109 ≤ length (now out)) ⌝ }
     ensures { λ r. ⌜ Writes 0 (receiverOutput (done (now (line .entry)))) (now (out .entry)) r (now (out .exit)) ⌝ }
 {
-    match receiving::receive(line, vectors) {
+    match receiving::receive(0, line, vectors) {
         Received::Done(s) => {
             let n = 10 * s.vectors as usize;
             let k = display::hex_lines(records::body(vectors, 0, n), out, 0);

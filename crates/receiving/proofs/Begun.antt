@@ -4,32 +4,22 @@ use Prim.Native.Nat.{ℕ, _+_}
 use mathlib.Core.Path.{_≡_, refl, sym, ap, ap₂, _∙_}
 use mathlib.Core.Bool.{Bool, true, false, cond, _&&_, true≢false}
 use mathlib.Core.List.{List, [], _∷_, map}
-use lib.Dec.{T, eqb, eqb→eq}
 use Rattle.scrambler.specs.Scrambler.{descrambled}
-use Rattle.block.specs.Block.{isS, same, isErrorVector, errorVector, vectorKind, kindIn}
+use Rattle.block.specs.declared.Edition.{Edition}
+use Rattle.block.specs.Block.{decoded, isS, isErrorVector, errorVector, vectorKind, kindIn}
 use Rattle.block.specs.declared.Kind.{Kind}
 use Rattle.block.specs.declared.Kind.the-variants.{E}
-use Rattle.block.proofs.Tests.{both-left, both-right, by-test, is-true}
+use Rattle.block.proofs.Tests.{by-test, is-true}
+use Rattle.block.proofs.Reading.{same-is}
 use Rattle.block.proofs.Carried.{kind-of-error, kind-of-fault, kind-of-decoded}
-use Rattle.diagrams.specs.Diagram.{afterIdle, afterData, afterError, diagramOf}
+use Rattle.diagrams.specs.Diagram.{afterIdle, afterData, afterError, afterLow, diagramOf}
 use Rattle.diagrams.specs.declared.State.{State}
-use Rattle.diagrams.specs.declared.State.the-variants.{Init, Control, Data, Terminate, Error}
+use Rattle.diagrams.specs.declared.State.the-variants.{Init, Control, Data, Terminate, Error, LowPower}
 use Rattle.receiving.specs.Machine.{Tested, testedOf}
 use Rattle.receiving.specs.Receive.{ends, stateOf, answerIn, Judged, answer, judge, answers, howMany, decodes, errs, begins, replaces, handedOf, runOf, vectorsOf}
 use Rattle.receiving.specs.Answer.{summaryOf}
 use Rattle.receiving.specs.Reasons.{Taken, takenOf}
-use Rattle.receiving.proofs.Reasons.{test, tested-of, kind-tested}
-
--- ---- of one block, from its kind and its vector
-
--- the vector of a tested block has the kind of the block
-abbrev Plain : Tested → Type 0
-Plain t = vectorKind (t .vector) ≡ kindIn (t .class)
-
-plain : (t : Taken) → Plain (test t)
-unfolding testedOf
-plain t =
-    kind-of-decoded (t .header) (descrambled (t .payload) (t .link .history)) ∙ sym (kind-tested (t .link) (t .header) (t .payload))
+use Rattle.receiving.proofs.Reasons.{test, tested-of, AllOf, all-of, kind-tested}
 
 both-true : (b : Bool) → b && true ≡ b
 both-true true = refl
@@ -39,83 +29,94 @@ both-false : (b : Bool) → b && false ≡ false
 both-false true = refl
 both-false false = refl
 
--- begun: its vector is of kind S
-begins-is : (s : State) (t : Tested) → Plain t → isS (kindIn (t .class)) && decodes s ≡ isS (vectorKind (answerIn s (t .vector)))
-unfolding answerIn
-begins-is Init t p = both-false (isS (kindIn (t .class))) ∙ sym (ap isS kind-of-fault)
-begins-is Control t p = both-true (isS (kindIn (t .class))) ∙ sym (ap isS p)
-begins-is Data t p = both-true (isS (kindIn (t .class))) ∙ sym (ap isS p)
-begins-is Terminate t p = both-true (isS (kindIn (t .class))) ∙ sym (ap isS p)
-begins-is Error t p = both-false (isS (kindIn (t .class))) ∙ sym (ap isS kind-of-error)
-
 -- a block of kind E leads to no state that answers it as decoded
 no-error : (s : State) (e : Bool) → decodes (diagramOf s E e) ≡ false
-unfolding diagramOf afterIdle afterData afterError
+unfolding diagramOf afterIdle afterData afterError afterLow
 no-error Init e = refl
 no-error Control e = refl
 no-error Data e = refl
 no-error Terminate e = refl
 no-error Error e = refl
+no-error LowPower e = refl
 
--- lists that are the same are equal
-same-equal : (l m : List ℕ) → T (same l m) → l ≡ m
-same-equal [] [] t = refl
-same-equal [] (b ∷ m) t = absurd t
-same-equal (a ∷ l) [] t = absurd t
-same-equal (a ∷ l) (b ∷ m) t =
-    ap₂ _∷_ (eqb→eq a b (both-left (eqb a b) (same l m) t)) (same-equal l m (both-right (eqb a b) (same l m) t))
+module _ (ed : Edition) where
+  -- ---- of one block, from its kind and its vector
 
--- replaced: its vector is the error vector
-replaces-is : (s : State) (t : Tested) (e : Bool) → Plain t → errs (stateOf s t e) ≡ isErrorVector (answerIn (stateOf s t e) (t .vector))
-unfolding stateOf answerIn
-replaces-is s t e p = on (t .on)
-  where
-    -- an answer as decoded is not the error vector
-    never : (k : Kind) → vectorKind (t .vector) ≡ k → decodes (diagramOf s k e) ≡ true → false ≡ isErrorVector (t .vector)
-    never k q d =
-        by-test (isErrorVector (t .vector))
-        (λ w. absurd
-        (let is : k ≡ E = sym q ∙ ap vectorKind (same-equal (t .vector) errorVector (is-true w)) ∙ kind-of-error in
-        true≢false (sym d ∙ ap (λ (z : Kind). decodes (diagramOf s z e)) is ∙ no-error s e)))
-        (λ w. sym w)
+  -- the vector of a tested block has the kind of the block
+  abbrev Plain : Tested → Type 0
+  Plain t = vectorKind ed (t .vector) ≡ kindIn (t .class)
 
-    by : (σ : State) → (decodes σ ≡ true → false ≡ isErrorVector (t .vector)) → errs σ ≡ isErrorVector (answerIn σ (t .vector))
-    by Init n = refl
-    by Control n = n refl
-    by Data n = n refl
-    by Terminate n = n refl
-    by Error n = refl
+  plain : (t : Taken) → t .link .edition ≡ ed → Plain (test t)
+  unfolding testedOf
+  plain t e =
+      ap (λ (d : Edition). vectorKind d (decoded (t .link .edition) (t .header) x)) (sym e)
+      ∙ kind-of-decoded (t .link .edition) (t .header) x ∙ sym (kind-tested (t .link) (t .header) (t .payload))
+    where
+      x : ℕ
+      x = descrambled (t .payload) (t .link .history)
 
-    on : (b : Bool) → errs (cond b (diagramOf s (kindIn (t .class)) e) Init) ≡ isErrorVector (answerIn (cond b (diagramOf s (kindIn (t .class)) e) Init) (t .vector))
-    on true = by (diagramOf s (kindIn (t .class)) e) (never (kindIn (t .class)) p)
-    on false = refl
+  -- begun: its vector is of kind S
+  begins-is : (s : State) (t : Tested) → Plain t → isS (kindIn (t .class)) && decodes s ≡ isS (vectorKind ed (answerIn s (t .vector)))
+  unfolding answerIn
+  begins-is Init t p = both-false (isS (kindIn (t .class))) ∙ sym (ap isS (kind-of-fault ed))
+  begins-is Control t p = both-true (isS (kindIn (t .class))) ∙ sym (ap isS p)
+  begins-is Data t p = both-true (isS (kindIn (t .class))) ∙ sym (ap isS p)
+  begins-is Terminate t p = both-true (isS (kindIn (t .class))) ∙ sym (ap isS p)
+  begins-is LowPower t p = both-true (isS (kindIn (t .class))) ∙ sym (ap isS p)
+  begins-is Error t p = both-false (isS (kindIn (t .class))) ∙ sym (ap isS (kind-of-error ed))
 
--- ---- of a list of blocks
+  -- replaced: its vector is the error vector
+  replaces-is : (s : State) (t : Tested) (e : Bool) → Plain t → errs (stateOf s t e) ≡ isErrorVector (answerIn (stateOf s t e) (t .vector))
+  unfolding stateOf answerIn
+  replaces-is s t e p = on (t .on)
+    where
+      -- an answer as decoded is not the error vector
+      never : (k : Kind) → vectorKind ed (t .vector) ≡ k → decodes (diagramOf s k e) ≡ true → false ≡ isErrorVector (t .vector)
+      never k q d =
+          by-test (isErrorVector (t .vector))
+          (λ w. absurd
+          (let is : k ≡ E = sym q ∙ ap (vectorKind ed) (same-is (t .vector) errorVector (is-true w)) ∙ kind-of-error ed in
+          true≢false (sym d ∙ ap (λ (z : Kind). decodes (diagramOf s z e)) is ∙ no-error s e)))
+          (λ w. sym w)
 
-begun-from : (s : State) (ts : List Taken) → howMany begins (judge s (map test ts)) ≡ howMany (λ v. isS (vectorKind v)) (answers s (map test ts))
-unfolding judge answers howMany
-begun-from s [] = refl
-begun-from s (t ∷ ts) =
-    let s′ = stateOf s (test t) (ends (map test ts)) in
-    ap₂ (λ (b : Bool) (n : ℕ). cond b 1 0 + n) (begins-is s′ (test t) (plain t)) (begun-from s′ ts)
+      by : (σ : State) → (decodes σ ≡ true → false ≡ isErrorVector (t .vector)) → errs σ ≡ isErrorVector (answerIn σ (t .vector))
+      by Init n = refl
+      by Control n = n refl
+      by Data n = n refl
+      by Terminate n = n refl
+      by Error n = refl
+      by LowPower n = n refl
 
-replaced-from : (s : State) (ts : List Taken) → howMany replaces (judge s (map test ts)) ≡ howMany isErrorVector (answers s (map test ts))
-unfolding judge answers howMany
-replaced-from s [] = refl
-replaced-from s (t ∷ ts) =
-    let s′ = stateOf s (test t) (ends (map test ts)) in
-    ap₂ (λ (b : Bool) (n : ℕ). cond b 1 0 + n) (replaces-is s (test t) (ends (map test ts)) (plain t)) (replaced-from s′ ts)
+      on : (b : Bool) → errs (cond b (diagramOf s (kindIn (t .class)) e) Init) ≡ isErrorVector (answerIn (cond b (diagramOf s (kindIn (t .class)) e) Init) (t .vector))
+      on true = by (diagramOf s (kindIn (t .class)) e) (never (kindIn (t .class)) p)
+      on false = refl
 
--- ---- of a whole line
+  -- ---- of a list of blocks
 
-pub begun-are-starts : (line : List ℕ) → summaryOf line .handed .begun ≡ howMany (λ v. isS (vectorKind v)) (vectorsOf line)
-unfolding summaryOf handedOf vectorsOf
-begun-are-starts line =
-    ap (λ (ts : List Tested). howMany begins (judge Init ts)) (tested-of line) ∙ begun-from Init (takenOf line)
-    ∙ sym (ap (λ (ts : List Tested). howMany (λ v. isS (vectorKind v)) (answers Init ts)) (tested-of line))
+  begun-from : (s : State) (ts : List Taken) → AllOf ed ts → howMany begins (judge s (map test ts)) ≡ howMany (λ v. isS (vectorKind ed v)) (answers s (map test ts))
+  unfolding judge answers howMany
+  begun-from s [] w = refl
+  begun-from s (t ∷ ts) w =
+      let s′ = stateOf s (test t) (ends (map test ts)) in
+      ap₂ (λ (b : Bool) (n : ℕ). cond b 1 0 + n) (begins-is s′ (test t) (plain t (w .0))) (begun-from s′ ts (w .1))
 
-pub replaced-are-errors : (line : List ℕ) → summaryOf line .handed .replaced ≡ howMany isErrorVector (vectorsOf line)
-unfolding summaryOf handedOf vectorsOf
-replaced-are-errors line =
-    ap (λ (ts : List Tested). howMany replaces (judge Init ts)) (tested-of line) ∙ replaced-from Init (takenOf line)
-    ∙ sym (ap (λ (ts : List Tested). howMany isErrorVector (answers Init ts)) (tested-of line))
+  replaced-from : (s : State) (ts : List Taken) → AllOf ed ts → howMany replaces (judge s (map test ts)) ≡ howMany isErrorVector (answers s (map test ts))
+  unfolding judge answers howMany
+  replaced-from s [] w = refl
+  replaced-from s (t ∷ ts) w =
+      let s′ = stateOf s (test t) (ends (map test ts)) in
+      ap₂ (λ (b : Bool) (n : ℕ). cond b 1 0 + n) (replaces-is s (test t) (ends (map test ts)) (plain t (w .0))) (replaced-from s′ ts (w .1))
+
+  -- ---- of a whole line
+
+  pub begun-are-starts : (line : List ℕ) → summaryOf ed line .handed .begun ≡ howMany (λ v. isS (vectorKind ed v)) (vectorsOf ed line)
+  unfolding summaryOf handedOf vectorsOf
+  begun-are-starts line =
+      ap (λ (ts : List Tested). howMany begins (judge Init ts)) (tested-of ed line) ∙ begun-from Init (takenOf ed line) (all-of ed line)
+      ∙ sym (ap (λ (ts : List Tested). howMany (λ v. isS (vectorKind ed v)) (answers Init ts)) (tested-of ed line))
+
+  pub replaced-are-errors : (line : List ℕ) → summaryOf ed line .handed .replaced ≡ howMany isErrorVector (vectorsOf ed line)
+  unfolding summaryOf handedOf vectorsOf
+  replaced-are-errors line =
+      ap (λ (ts : List Tested). howMany replaces (judge Init ts)) (tested-of ed line) ∙ replaced-from Init (takenOf ed line) (all-of ed line)
+      ∙ sym (ap (λ (ts : List Tested). howMany isErrorVector (answers Init ts)) (tested-of ed line))

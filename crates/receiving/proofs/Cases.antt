@@ -5,6 +5,8 @@ use mathlib.Core.List.{[], _∷_, _++_, flatten}
 use lib.ListN.{replicate}
 use Rattle.diagrams.specs.declared.Lock.{Lock}
 use Rattle.bits.specs.Bits.{bit, number, listed, streamBit, lineBit, lineBits}
+use Rattle.block.specs.declared.Edition.{Edition}
+use Rattle.block.specs.declared.Edition.the-variants.{Old, New}
 use Rattle.block.specs.Block.{localFaultVector, classOf}
 use Rattle.diagrams.specs.Lock.{lockFresh, lockOf, slipsOf, countedOf, invalidOf}
 use Rattle.diagrams.specs.Rate.{rateOf, windowOf}
@@ -14,14 +16,16 @@ use Rattle.receiving.specs.Answer.{summaryOf}
 use Rattle.receiving.proofs.Steps.{lockSteps}
 
 -- Document 01's receiver example: nine zero bytes are one block with an invalid header, which slips.
-nine-zeros : receivedVectors (replicate 9 0) ≡ localFaultVector
+nine-zeros : (ed : Edition) → receivedVectors ed (replicate 9 0) ≡ localFaultVector
 unfolding receivedVectors vectorsOf runOf run feed filled lineBits lineBit listed streamBit bit number testedOf linkOf validOf answers judge stateOf answerIn ends letsEnd lockOf slipsOf countedOf invalidOf rateOf windowOf flatten
-nine-zeros = refl
+nine-zeros Old = refl
+nine-zeros New = refl
 
 -- its counts
-nine-zeros-counts : summaryOf (replicate 9 0) ≡ record { counts = record { tested = 1; slips = 1; headers = 1; types = 0; codes = 0; sets = 0 }; locked = false; high = false; vectors = 1; alone = false; handed = record { begun = 0; replaced = 0 } }
+nine-zeros-counts : (ed : Edition) → summaryOf ed (replicate 9 0) ≡ record { counts = record { tested = 1; slips = 1; headers = 1; types = 0; codes = 0; sets = 0 }; locked = false; high = false; vectors = 1; alone = false; handed = record { begun = 0; replaced = 0 } }
 unfolding summaryOf lastIs countsOf handedOf vectorsOf runOf run feed filled lineBits lineBit listed streamBit bit number testedOf linkOf validOf answers judge stateOf answerIn ends letsEnd lockOf slipsOf countedOf invalidOf rateOf windowOf howMany classOf
-nine-zeros-counts = refl
+nine-zeros-counts Old = refl
+nine-zeros-counts New = refl
 
 -- ---- the lock's steps over headers, each by whether it is valid
 

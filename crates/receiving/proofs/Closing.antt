@@ -7,6 +7,7 @@ use native.Mathlib.Omega.{arith}
 use lib.ListN.{length, take, drop, length-append}
 use lib.Seq.{drop-drop, length-take-le}
 use Rattle.bits.specs.Bits.{lineBits}
+use Rattle.block.specs.declared.Edition.{Edition}
 use Rattle.diagrams.specs.declared.State.{State}
 use Rattle.diagrams.specs.declared.State.the-variants.{Init}
 use Rattle.receiving.specs.Machine.{Feed, Run, Tested, run}
@@ -22,15 +23,20 @@ use Rattle.receiving.proofs.Count.{length-answers, vectors-fit}
 use Rattle.receiving.proofs.Counted.{hand-first, hand-append}
 use Rattle.receiving.proofs.Settle.{held-same, settled, last-bytes, bytes-append, alone-settled, alone-held, handed-held}
 
-module _ (line room : List ℕ) (r : Receiver) (f : Fresh r) (enough : 10 * (8 * length line / 66) ≤ length room) where
+-- a fresh receiver has its edition
+pub fresh-edition : (ed : Edition) (r : Receiver) → Fresh ed r → r .link .edition ≡ ed
+unfolding feedIn
+fresh-edition ed r f = ap (λ (z : Feed). z .link .edition) (f .feed)
+
+module _ (ed : Edition) (line room : List ℕ) (r : Receiver) (f : Fresh ed r) (enough : 10 * (8 * length line / 66) ≤ length room) where
   -- a fresh receiver's run is that of the definition
-  run-is : run (feedIn r) (lineBits line) ≡ runOf line
+  run-is : run (feedIn r) (lineBits line) ≡ runOf ed line
   unfolding runOf
   run-is = ap (λ (z : Feed). run z (lineBits line)) (f .feed)
 
   -- all blocks of the line but the last, settled
   abbrev σ : Settled
-  σ = settle Init (runOf line .tested)
+  σ = settle Init (runOf ed line .tested)
 
   -- and so is what it settles
   settle-is : settle (r .state) (heldIn r ++ run (feedIn r) (lineBits line) .tested) ≡ σ
@@ -40,9 +46,9 @@ module _ (line room : List ℕ) (r : Receiver) (f : Fresh r) (enough : 10 * (8 *
       ∙ ap (λ (z : Run). settle Init (z .tested)) run-is
 
   -- the vectors of the line: those settled, and that of the last block
-  all-bytes : receivedVectors line ≡ bytesOf (σ .judged) ++ bytesOf (judge (σ .state) (σ .held))
+  all-bytes : receivedVectors ed line ≡ bytesOf (σ .judged) ++ bytesOf (judge (σ .state) (σ .held))
   unfolding receivedVectors vectorsOf answers
-  all-bytes = ap bytesOf (settled Init (runOf line .tested)) ∙ bytes-append (σ .judged) (judge (σ .state) (σ .held))
+  all-bytes = ap bytesOf (settled Init (runOf ed line .tested)) ∙ bytes-append (σ .judged) (judge (σ .state) (σ .held))
 
   -- what the loop writes fits the room
   pub written-fits : length (written r line) ≤ length room
@@ -52,7 +58,7 @@ module _ (line room : List ℕ) (r : Receiver) (f : Fresh r) (enough : 10 * (8 *
         ap (λ (z : Settled). length (bytesOf (z .judged))) settle-is,
         ap length all-bytes,
         length-append (bytesOf (σ .judged)) (bytesOf (judge (σ .state) (σ .held))),
-        vectors-fit line,
+        vectors-fit ed line,
       )
 
   module _ (room₁ : List ℕ) (p : Progress) (e : Ends line room room₁ r p) where
@@ -61,7 +67,7 @@ module _ (line room : List ℕ) (r : Receiver) (f : Fresh r) (enough : 10 * (8 *
     last = heldBytes (p .receiver .have) (p .receiver .state) (p .receiver .held) true
 
     -- the vectors of the line: what the loop wrote, and these
-    all-are : receivedVectors line ≡ take (p .at) room₁ ++ last
+    all-are : receivedVectors ed line ≡ take (p .at) room₁ ++ last
     unfolding heldIn
     all-are =
         all-bytes
@@ -71,7 +77,7 @@ module _ (line room : List ℕ) (r : Receiver) (f : Fresh r) (enough : 10 * (8 *
         ∙ ap (λ (l : List ℕ). take (p .at) room₁ ++ l) (last-bytes (p .receiver .have) (p .receiver .state) (p .receiver .held))
 
     -- how many bytes that is
-    all-length : length (receivedVectors line) ≡ p .at + length last
+    all-length : length (receivedVectors ed line) ≡ p .at + length last
     all-length =
         ap length all-are ∙ length-append (take (p .at) room₁) last
         ∙ ap (λ (n : ℕ). n + length last) (length-take-le (p .at) room₁ (omega (arith, e .at, e .len)))
@@ -79,11 +85,11 @@ module _ (line room : List ℕ) (r : Receiver) (f : Fresh r) (enough : 10 * (8 *
     -- the last vector fits the room, whichever it is
     pub last-fits : (ends : Bool) → p .at + length (heldBytes (p .receiver .have) (p .receiver .state) (p .receiver .held) ends) ≤ length room₁
     last-fits ends =
-        omega (arith, all-length, vectors-fit line, e .len, held-same (p .receiver .have) (p .receiver .state) (p .receiver .held) ends true)
+        omega (arith, all-length, vectors-fit ed line, e .len, held-same (p .receiver .have) (p .receiver .state) (p .receiver .held) ends true)
 
     -- the room, once it is written
     pub room-is : (room₂ : List ℕ) → room₂ ≡ take (p .at) room₁ ++ (last ++ drop (p .at + length last) room₁)
-        → room₂ ≡ receivedVectors line ++ drop (length (receivedVectors line)) room
+        → room₂ ≡ receivedVectors ed line ++ drop (length (receivedVectors ed line)) room
     room-is room₂ er =
         er ∙ sym (append-assoc (take (p .at) room₁) last (drop (p .at + length last) room₁))
         ∙ ap₂ (λ (a b : List ℕ). a ++ b) (sym all-are)
@@ -93,17 +99,17 @@ module _ (line room : List ℕ) (r : Receiver) (f : Fresh r) (enough : 10 * (8 *
     -- whether the last block is judged alone
     alone-is : (s : State) (alone : Bool)
         → s ≡ heldState (p .receiver .have) (p .receiver .state) (p .receiver .held) true → alone ≡ cond (p .receiver .have) (isTerminate s) false
-        → alone ≡ judgedAlone (judgedOf line)
+        → alone ≡ judgedAlone (judgedOf ed line)
     unfolding heldIn
     alone-is s alone es ea =
         ea ∙ ap (λ (z : State). cond (p .receiver .have) (isTerminate z) false) es
         ∙ alone-held (p .receiver .have) (p .receiver .state) (p .receiver .held)
         ∙ ap₂ (λ (z : State) (h : List Tested). judgedAlone (judge z h)) (e .state) (e .held)
         ∙ ap (λ (z : Settled). judgedAlone (judge (z .state) (z .held))) settle-is
-        ∙ sym (alone-settled Init (runOf line .tested))
+        ∙ sym (alone-settled Init (runOf ed line .tested))
 
     -- what the vectors are counted for
-    handed-is : (n : Handed) → n ≡ heldHanded (p .receiver .have) (p .handed) (p .receiver .state) (p .receiver .held) true → n ≡ handedOf (judgedOf line)
+    handed-is : (n : Handed) → n ≡ heldHanded (p .receiver .have) (p .handed) (p .receiver .state) (p .receiver .held) true → n ≡ handedOf (judgedOf ed line)
     unfolding heldIn
     handed-is n en =
         en ∙ handed-held (p .receiver .have) (p .handed) (p .receiver .state) (p .receiver .held)
@@ -112,7 +118,7 @@ module _ (line room : List ℕ) (r : Receiver) (f : Fresh r) (enough : 10 * (8 *
         ∙ ap (λ (z : Handed). plusHanded z (handedOf (judge (σ .state) (σ .held)))) (sym (hand-first (handedOf (σ .judged))))
         ∙ sym (hand-append noneHanded (σ .judged) (judge (σ .state) (σ .held)))
         ∙ hand-first (handedOf (σ .judged ++ judge (σ .state) (σ .held)))
-        ∙ ap handedOf (sym (settled Init (runOf line .tested)))
+        ∙ ap handedOf (sym (settled Init (runOf ed line .tested)))
 
     -- the summary is that of the definition
     pub summary-is : (s : State) (alone : Bool) (n : Handed)
@@ -120,9 +126,9 @@ module _ (line room : List ℕ) (r : Receiver) (f : Fresh r) (enough : 10 * (8 *
         → n ≡ heldHanded (p .receiver .have) (p .handed) (p .receiver .state) (p .receiver .held) true
         → _≡_ {A = Summary}
         (record { counts = p .counts; locked = p .receiver .link .lock .locked; high = p .receiver .link .rate .high; vectors = p .counts .tested; alone = alone; handed = n })
-        (summaryOf line)
+        (summaryOf ed line)
     unfolding summaryOf countsOf vectorsOf feedIn
     summary-is s alone n es ea en =
-        let c : p .counts ≡ countsOf (runOf line .tested) = e .counts ∙ ap (λ (z : Run). countsOf (z .tested)) run-is in
-        let l : p .receiver .link ≡ runOf line .end .link = ap (λ (z : Feed). z .link) (e .feed) ∙ ap (λ (z : Run). z .end .link) run-is in
+        let c : p .counts ≡ countsOf (runOf ed line .tested) = e .counts ∙ ap (λ (z : Run). countsOf (z .tested)) run-is in
+        let l : p .receiver .link ≡ runOf ed line .end .link = ap (λ (z : Feed). z .link) (e .feed) ∙ ap (λ (z : Run). z .end .link) run-is in
         rw (c, l, length-answers, alone-is s alone es ea, handed-is n en)

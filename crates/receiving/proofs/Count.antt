@@ -8,9 +8,10 @@ use lib.ListN.{length, length-append}
 use borrow.Author.Tests.{eqb-true, eqb-false}
 use Rattle.bits.specs.Bits.{lineBits}
 use Rattle.bits.proofs.Lists.{length-lineBits}
+use Rattle.block.specs.declared.Edition.{Edition}
 use Rattle.block.specs.Block.{decoded, formatOf, valid, vectorOf, errorVector}
 use Rattle.diagrams.specs.declared.State.{State}
-use Rattle.diagrams.specs.declared.State.the-variants.{Init, Control, Data, Terminate, Error}
+use Rattle.diagrams.specs.declared.State.the-variants.{Init, Control, Data, Terminate, Error, LowPower}
 use Rattle.receiving.specs.Machine.{Feed, Tested, at, fills, feed, filled, run, testedOf, linkFresh}
 use Rattle.receiving.specs.Receive.{stateOf, ends, answerIn, judge, answers, runOf, vectorsOf, receivedVectors}
 
@@ -33,9 +34,9 @@ tested-bits f (b ∷ bits) l =
     omega (arith, u, tested-bits (feed f b) bits (u .1), length-append (filled f b) (run (feed f b) bits .tested))
 
 -- no more blocks than fit the line
-pub tested-few : (line : List ℕ) → length (runOf line .tested) ≤ 8 * length line / 66
+pub tested-few : (ed : Edition) (line : List ℕ) → length (runOf ed line .tested) ≤ 8 * length line / 66
 unfolding runOf
-tested-few line = omega (arith, tested-bits (at linkFresh) (lineBits line) (omega arith), length-lineBits line)
+tested-few ed line = omega (arith, tested-bits (at (linkFresh ed)) (lineBits line) (omega arith), length-lineBits line)
 
 -- ---- "one for each tested block"
 pub length-answers : (s : State) (ts : List Tested) → length (answers s ts) ≡ length ts
@@ -44,11 +45,11 @@ length-answers s [] = refl
 length-answers s (t ∷ ts) = ap suc (length-answers (stateOf s t (ends ts)) ts)
 
 -- ---- a vector is ten bytes
-pub length-decoded : (h x : ℕ) → length (decoded h x) ≡ 10
+pub length-decoded : (ed : Edition) (h x : ℕ) → length (decoded ed h x) ≡ 10
 unfolding decoded
-length-decoded h x = go (valid (formatOf h x) x)
+length-decoded ed h x = go (valid ed (formatOf h x) x)
   where
-    go : (b : Bool) → length (cond b (vectorOf (formatOf h x) x) errorVector) ≡ 10
+    go : (b : Bool) → length (cond b (vectorOf ed (formatOf h x) x) errorVector) ≡ 10
     go true = refl
     go false = refl
 
@@ -61,7 +62,7 @@ pub data Tens : List Tested → Type 0 where
 tens-bit : (f : Feed) (b : ℕ) (s g : Bool) → f .skip ≡ s → fills f ≡ g → {ts : List Tested} → Tens ts → Tens (filled f b ++ ts)
 unfolding filled testedOf
 tens-bit f b true g es eg {ts} r = rw es r
-tens-bit f b false true es eg {ts} r = rw (es, eg) (more (length-decoded _ _) r)
+tens-bit f b false true es eg {ts} r = rw (es, eg) (more (length-decoded _ _ _) r)
 tens-bit f b false false es eg {ts} r = rw (es, eg) r
 
 -- what a run tests
@@ -78,6 +79,7 @@ length-answer Control v e = e
 length-answer Data v e = e
 length-answer Terminate v e = e
 length-answer Error v e = refl
+length-answer LowPower v e = e
 
 -- ten bytes for each block
 pub length-vectors : (s : State) {ts : List Tested} → Tens ts → length (flatten (answers s ts)) ≡ 10 * length ts
@@ -88,6 +90,6 @@ length-vectors s (more {t = t} {ts = ts} e r) =
     length-append (answerIn s′ (t .vector)) (flatten (answers s′ ts)) ∙ omega (arith, length-answer s′ (t .vector) e, length-vectors s′ r)
 
 -- the room of refusal 4 takes all vectors
-pub vectors-fit : (line : List ℕ) → length (receivedVectors line) ≤ 10 * (8 * length line / 66)
+pub vectors-fit : (ed : Edition) (line : List ℕ) → length (receivedVectors ed line) ≤ 10 * (8 * length line / 66)
 unfolding receivedVectors vectorsOf runOf
-vectors-fit line = omega (arith, length-vectors Init (tens-run (at linkFresh) (lineBits line)), tested-few line)
+vectors-fit ed line = omega (arith, length-vectors Init (tens-run (at (linkFresh ed)) (lineBits line)), tested-few ed line)

@@ -83,6 +83,7 @@ module _ (c : Counts) where
   free Class.C t = summed Class.C _ _ _ _ (nought (c .headers)) (nought (c .types)) (nought (c .codes)) (nought (c .sets))
   free Class.S t = summed Class.S _ _ _ _ (nought (c .headers)) (nought (c .types)) (nought (c .codes)) (nought (c .sets))
   free Class.T t = summed Class.T _ _ _ _ (nought (c .headers)) (nought (c .types)) (nought (c .codes)) (nought (c .sets))
+  free Class.LI t = summed Class.LI _ _ _ _ (nought (c .headers)) (nought (c .types)) (nought (c .codes)) (nought (c .sets))
   free (Class.Bad r) t = absurd t
 
   -- what is bad counts for its reason alone

@@ -6,6 +6,7 @@ use native.Mathlib.Omega.{arith}
 use lib.Dec.{leb}
 use borrow.Author.Tests.{leb-false}
 use Rattle.scrambler.proofs.Laws.{lineAfter-lt}
+use Rattle.block.specs.declared.Edition.{Edition}
 use Rattle.diagrams.specs.Lock.{lockOf, slipsOf, countedOf, invalidOf}
 use Rattle.diagrams.specs.Rate.{rateOf, windowOf}
 use Rattle.diagrams.specs.declared.Lock.{Lock}
@@ -55,8 +56,8 @@ rate-in r b a v h =
     (λ e. omega arith)
 
 -- a fresh link is in range
-pub range-fresh : InRange linkFresh
-range-fresh = record { tested = omega arith; invalid = omega arith; blocks = omega arith; misses = omega arith; history = omega arith }
+pub range-fresh : (ed : Edition) → InRange (linkFresh ed)
+range-fresh ed = record { tested = omega arith; invalid = omega arith; blocks = omega arith; misses = omega arith; history = omega arith }
 
 -- a tested block keeps a link in range
 pub range-next : (l : Link) (h p : ℕ) → InRange l → InRange (linkOf l h p)

@@ -7,6 +7,7 @@ use mathlib.Core.List.{List, [], _∷_, _++_, map}
 use native.Mathlib.Omega.{arith}
 use Rattle.bits.specs.Bits.{lineBits}
 use Rattle.scrambler.specs.Scrambler.{descrambled}
+use Rattle.block.specs.declared.Edition.{Edition}
 use Rattle.block.specs.Block.{kindOf, isError, kindIn}
 use Rattle.block.specs.declared.Kind.{Kind}
 use Rattle.block.specs.declared.Class.{Class}
@@ -16,7 +17,7 @@ use Rattle.block.proofs.Classes.{kind-of-class}
 use Rattle.diagrams.specs.Diagram.{diagramOf, follows}
 use Rattle.diagrams.specs.declared.State.{State}
 use Rattle.diagrams.specs.declared.State.the-variants.{Init}
-use Rattle.receiving.specs.Machine.{Tested, Feed, at, headerOf, payloadOf, fills, feed, filled, run, linkFresh, testedOf}
+use Rattle.receiving.specs.Machine.{Tested, Feed, at, headerOf, payloadOf, fills, afterBlock, feed, filled, run, linkFresh, linkOf, testedOf}
 use Rattle.receiving.specs.Receive.{letsEnd, ends, stateOf, answerIn, judge, answers, howMany, badFor, countsOf, runOf, vectorsOf}
 use Rattle.receiving.specs.Answer.{summaryOf}
 use Rattle.receiving.specs.declared.Link.{Link}
@@ -47,14 +48,45 @@ unfolding run takenFrom
 tested-from f [] = refl
 tested-from f (b ∷ bits) = ap₂ _++_ (tested-at f b) (tested-from (feed f b) bits) ∙ sym (map-append (takenAt f b) (takenFrom (feed f b) bits))
 
-pub tested-of : (line : List ℕ) → runOf line .tested ≡ map test (takenOf line)
+pub tested-of : (ed : Edition) (line : List ℕ) → runOf ed line .tested ≡ map test (takenOf ed line)
 unfolding runOf takenOf
-tested-of line = tested-from (at linkFresh) (lineBits line)
+tested-of ed line = tested-from (at (linkFresh ed)) (lineBits line)
+
+-- a receiver keeps its edition
+abbrev pub AllOf : Edition → List Taken → Type 0
+AllOf ed [] = Unit
+AllOf ed (t ∷ ts) = (t .link .edition ≡ ed) × AllOf ed ts
+
+keeps : (f : Feed) (b : ℕ) → feed f b .link .edition ≡ f .link .edition
+unfolding feed linkOf
+keeps f b = go (f .skip) (fills f)
+  where
+    go : (s g : Bool) → cond s (at (f .link)) (cond g (afterBlock (f .link) (f .bits ++ b ∷ [])) (record { bits = f .bits ++ b ∷ []; skip = false; link = f .link })) .link .edition ≡ f .link .edition
+    go true g = refl
+    go false true = refl
+    go false false = refl
+
+one-of : (ed : Edition) (f : Feed) (b : ℕ) (ts : List Taken) → f .link .edition ≡ ed → AllOf ed ts → AllOf ed (takenAt f b ++ ts)
+one-of ed f b ts e w = go (f .skip) (fills f)
+  where
+    go : (s g : Bool) → AllOf ed (cond s [] (cond g (record { link = f .link; header = headerOf (f .bits ++ b ∷ []); payload = payloadOf (f .bits ++ b ∷ []) } ∷ []) []) ++ ts)
+    go true g = w
+    go false true = (e, w)
+    go false false = w
+
+all-from : (ed : Edition) (f : Feed) (bits : List ℕ) → f .link .edition ≡ ed → AllOf ed (takenFrom f bits)
+unfolding takenFrom
+all-from ed f [] e = tt
+all-from ed f (b ∷ bits) e = one-of ed f b (takenFrom (feed f b) bits) e (all-from ed (feed f b) bits (keeps f b ∙ e))
+
+pub all-of : (ed : Edition) (line : List ℕ) → AllOf ed (takenOf ed line)
+unfolding takenOf
+all-of ed line = all-from ed (at (linkFresh ed)) (lineBits line) refl
 
 -- the kind of a tested block's class is that of document 01
-pub kind-tested : (l : Link) (header payload : ℕ) → kindIn (testedOf l header payload .class) ≡ kindOf header (descrambled payload (l .history))
+pub kind-tested : (l : Link) (header payload : ℕ) → kindIn (testedOf l header payload .class) ≡ kindOf (l .edition) header (descrambled payload (l .history))
 unfolding testedOf
-kind-tested l header payload = sym (kind-of-class header (descrambled payload (l .history)))
+kind-tested l header payload = sym (kind-of-class (l .edition) header (descrambled payload (l .history)))
 
 -- ---- the four counts together
 
@@ -68,6 +100,7 @@ one-reason (Class.Bad Header) = refl
 one-reason (Class.Bad BlockType) = refl
 one-reason (Class.Bad ControlCode) = refl
 one-reason (Class.Bad SetCode) = refl
+one-reason Class.LI = refl
 
 bad-are : (ts : List Taken) → badBlocks (countsOf (map test ts)) ≡ howMany (λ t. isError (takenKind t)) ts
 unfolding countsOf howMany
@@ -76,9 +109,9 @@ bad-are (t ∷ ts) =
     omega (arith, one-reason (test t .class) ∙ ap (λ (k : Kind). cond (isError k) 1 0) (kind-tested (t .link) (t .header) (t .payload)), bad-are ts)
 
 -- of a whole line: they are its tested blocks of kind E
-pub reasons-are-errors : (line : List ℕ) → badBlocks (summaryOf line .counts) ≡ howMany (λ t. isError (takenKind t)) (takenOf line)
+pub reasons-are-errors : (ed : Edition) (line : List ℕ) → badBlocks (summaryOf ed line .counts) ≡ howMany (λ t. isError (takenKind t)) (takenOf ed line)
 unfolding summaryOf
-reasons-are-errors line = ap (λ (ts : List Tested). badBlocks (countsOf ts)) (tested-of line) ∙ bad-are (takenOf line)
+reasons-are-errors ed line = ap (λ (ts : List Tested). badBlocks (countsOf ts)) (tested-of ed line) ∙ bad-are (takenOf ed line)
 
 -- ---- the vectors by document 01's kinds alone
 
@@ -101,6 +134,6 @@ answers-same s (t ∷ ts) =
     ∙ ap (λ (vs : List (List ℕ)). answerIn (stateByKind s t (endsByKind ts)) (takenVector t) ∷ vs) (answers-same (stateByKind s t (endsByKind ts)) ts)
 
 -- of a whole line
-pub vectors-stay : (line : List ℕ) → vectorsOf line ≡ answersByKind Init (takenOf line)
+pub vectors-stay : (ed : Edition) (line : List ℕ) → vectorsOf ed line ≡ answersByKind Init (takenOf ed line)
 unfolding vectorsOf
-vectors-stay line = ap (answers Init) (tested-of line) ∙ answers-same Init (takenOf line)
+vectors-stay ed line = ap (answers Init) (tested-of ed line) ∙ answers-same Init (takenOf ed line)

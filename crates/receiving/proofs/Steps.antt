@@ -5,6 +5,7 @@ use mathlib.Core.List.{List, [], _∷_, _++_}
 use Prim.Native.Nat.{ℕ, _+_}
 use lib.ListN.{length, length-append}
 use Rattle.bits.specs.Bits.{lineBits}
+use Rattle.block.specs.declared.Edition.{Edition}
 use Rattle.diagrams.specs.Lock.{lockFresh, lockOf}
 use Rattle.diagrams.specs.declared.Lock.{Lock}
 use Rattle.receiving.specs.Machine.{Feed, at, fills, feed, filled, run, linkOf, linkFresh, headerOf, validOf}
@@ -55,8 +56,8 @@ steps f (b ∷ bits) =
     )
 
 -- of a whole line, from the fresh lock: `tested` is the number of lock steps
-pub lock-steps : (line : List ℕ)
-    → (lockSteps lockFresh (validHeaders (at linkFresh) (lineBits line)) ≡ runOf line .end .link .lock)
-    × (length (runOf line .tested) ≡ length (validHeaders (at linkFresh) (lineBits line)))
+pub lock-steps : (ed : Edition) (line : List ℕ)
+    → (lockSteps lockFresh (validHeaders (at (linkFresh ed)) (lineBits line)) ≡ runOf ed line .end .link .lock)
+    × (length (runOf ed line .tested) ≡ length (validHeaders (at (linkFresh ed)) (lineBits line)))
 unfolding runOf
-lock-steps line = steps (at linkFresh) (lineBits line)
+lock-steps ed line = steps (at (linkFresh ed)) (lineBits line)

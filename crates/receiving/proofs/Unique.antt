@@ -32,5 +32,5 @@ answer-injective (Refused n p) (Refused m q) e =
     ap (λ (x : Refusal). Refused x p) (number-injective n m (same-number (numberOf n) (numberOf m) p q e)) ∙ ap (Refused m) (same-place (numberOf n) (numberOf m) p q e)
 
 -- `receive`
-pub receive-unique : (line room room₁ room₂ : List ℕ) (a b : Received) → Receives line room a room₁ → Receives line room b room₂ → (a ≡ b) × (room₁ ≡ room₂)
-receive-unique line room room₁ room₂ a b (p, q) (r, s) = (answer-injective a b (p ∙ sym r), q ∙ sym s)
+pub receive-unique : (edition : ℕ) (line room room₁ room₂ : List ℕ) (a b : Received) → Receives edition line room a room₁ → Receives edition line room b room₂ → (a ≡ b) × (room₁ ≡ room₂)
+receive-unique edition line room room₁ room₂ a b (p, q) (r, s) = (answer-injective a b (p ∙ sym r), q ∙ sym s)

@@ -7,6 +7,7 @@ use lib.ListN.{length, take, drop}
 use Rattle.bits.specs.Bits.{lineBits}
 use Rattle.carrying.specs.Carrying.{carriedBits, Sound}
 use Rattle.decoding.specs.Vector.{vectorBytes}
+use Rattle.block.specs.declared.Edition.{Edition}
 use Rattle.diagrams.specs.declared.State.{State}
 use Rattle.diagrams.specs.declared.State.the-variants.{Init}
 use Rattle.receiving.specs.Machine.{Feed, Run, Tested, run, at, linkFresh}
@@ -33,9 +34,9 @@ heldIn r = cond (r .have) (testedIn (r .held) ∷ []) []
 unfoldable pub feedIn : Receiver → Feed
 feedIn r = record { bits = carriedBits (r .carried); skip = r .skip; link = r .link }
 
--- a receiver before the first bit
-pub record Fresh (r : Receiver) : Type 0 where
-  pub feed : feedIn r ≡ at linkFresh
+-- a receiver of an edition before the first bit
+pub record Fresh (ed : Edition) (r : Receiver) : Type 0 where
+  pub feed : feedIn r ≡ at (linkFresh ed)
   pub range : InRange (r .link)
   pub sound : Sound (r .carried)
   pub state : r .state ≡ Init
@@ -101,9 +102,10 @@ pub record Under (line room : List ℕ) (p : Progress) : Type 0 where
   pub counts : Within (p .pos) (p .counts)
   pub handed : HandedWithin (p .pos) (p .handed)
 
--- one turn leaves what comes of it, and what stands in the room behind the bytes written
+-- one turn leaves the edition, what comes of it, and what stands in the room behind the bytes written
 pub record Turns (line room room′ : List ℕ) (p p′ : Progress) : Type 0 where
   pub under : Under line room′ p′
+  pub edition : p′ .receiver .link .edition ≡ p .receiver .link .edition
   pub same : outcome line room′ p′ ≡ outcome line room p
   pub past : p .pos < p′ .pos
   pub grows : p .at ≤ p′ .at

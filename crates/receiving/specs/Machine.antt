@@ -7,6 +7,7 @@ use lib.Dec.{eqb}
 use Rattle.bits.specs.Bits.{bit, number}
 use Rattle.scrambler.specs.Scrambler.{descrambled, lineAfter}
 use Rattle.block.specs.Block.{decoded, classOf}
+use Rattle.block.specs.declared.Edition.{Edition}
 use Rattle.block.specs.declared.Class.{Class}
 use Rattle.diagrams.specs.Lock.{lockFresh, lockOf, slipsOf}
 use Rattle.diagrams.specs.Rate.{rateFresh, rateOf}
@@ -14,9 +15,9 @@ use Rattle.receiving.specs.declared.Link.{Link}
 
 -- ---- one tested block: "each tested block updates lock, then error rate"
 
--- "The receiver starts with zeros and descrambles every tested block."
-abbrev pub linkFresh : Link
-linkFresh = record { lock = lockFresh; rate = rateFresh; history = 0 }
+-- "The receiver starts with zeros and descrambles every tested block." 9/13: "the edition is chosen with the fresh state and kept in it".
+abbrev pub linkFresh : Edition → Link
+linkFresh ed = record { edition = ed; lock = lockFresh; rate = rateFresh; history = 0 }
 
 -- a header is invalid "if its bits are equal"
 unfoldable pub validOf : ℕ → Bool
@@ -27,6 +28,7 @@ unfoldable pub linkOf : Link → (header payload : ℕ) → Link
 linkOf l header payload =
     let lock = lockOf (l .lock) (validOf header) in
     record {
+      edition = l .edition;
       lock = lock;
       rate = rateOf (l .rate) (l .lock .locked) (lock .locked) (validOf header);
       history = lineAfter payload (l .history);
@@ -44,8 +46,8 @@ testedOf l header payload =
     record {
       on = linkOf l header payload .lock .locked && not (linkOf l header payload .rate .high);
       slipped = slipsOf (l .lock) (validOf header);
-      class = classOf header (descrambled payload (l .history));
-      vector = decoded header (descrambled payload (l .history));
+      class = classOf (l .edition) header (descrambled payload (l .history));
+      vector = decoded (l .edition) header (descrambled payload (l .history));
     }
 
 -- ---- line bits, one at a time

@@ -5,6 +5,7 @@ use mathlib.Core.List.{List, [], _∷_, map, flatten}
 use lib.ListN.{length}
 use lib.Dec.{eqb}
 use Rattle.bits.specs.Bits.{lineBits}
+use Rattle.block.specs.declared.Edition.{Edition}
 use Rattle.block.specs.Block.{errorVector, localFaultVector, isS, kindIn, classNumber}
 use Rattle.block.specs.declared.Reason.{Reason}
 use Rattle.block.specs.declared.Reason.the-variants.{Header, BlockType, ControlCode, SetCode}
@@ -12,13 +13,13 @@ use Rattle.block.specs.declared.Class.{Class}
 use Rattle.block.specs.declared.Class.the-variants.{Bad}
 use Rattle.diagrams.specs.Diagram.{diagramOf, follows}
 use Rattle.diagrams.specs.declared.State.{State}
-use Rattle.diagrams.specs.declared.State.the-variants.{Init, Control, Data, Terminate, Error}
+use Rattle.diagrams.specs.declared.State.the-variants.{Init, Control, Data, Terminate, Error, LowPower}
 use Rattle.receiving.specs.Machine.{Tested, Run, run, at, linkFresh}
 use Rattle.receiving.specs.declared.Counts.{Counts}
 use Rattle.receiving.specs.declared.Handed.{Handed}
 
--- Whether the next block is S or C: it "counts as E if testing it leaves the receiver not locked or high". Document 02, 6/13: "A missing next
--- block now counts as C", where document 01 had it as E.
+-- Whether the next block is S or C, or LI: it "counts as E if testing it leaves the receiver not locked or high". Document 02, 6/13: "A
+-- missing next block now counts as C", where document 01 had it as E.
 unfoldable pub letsEnd : Tested → Bool
 letsEnd t = t .on && follows (kindIn (t .class))
 
@@ -30,13 +31,15 @@ ends (t ∷ ts) = letsEnd t
 unfoldable pub stateOf : State → Tested → Bool → State
 stateOf s t ends = cond (t .on) (diagramOf s (kindIn (t .class)) ends) Init
 
--- "INIT, answer the Local Fault vector .. State E answers the error vector, the others the decoded block."
+-- "INIT, answer the Local Fault vector .. State E answers the error vector, the others the decoded block." 9/13: "An added state ..
+-- answers the decoded one".
 unfoldable pub answerIn : State → List ℕ → List ℕ
 answerIn Init decoded = localFaultVector
 answerIn Error decoded = errorVector
 answerIn Control decoded = decoded
 answerIn Data decoded = decoded
 answerIn Terminate decoded = decoded
+answerIn LowPower decoded = decoded
 
 -- a tested block, and the state of the diagram that it leads to
 pub record Judged : Type 0 where
@@ -64,6 +67,7 @@ isTerminate Control = false
 isTerminate Data = false
 isTerminate Terminate = true
 isTerminate Error = false
+isTerminate LowPower = false
 
 -- whether the last element of a list passes a test; not where there is none
 unfoldable pub lastIs : {A : Type 0} → (A → Bool) → List A → Bool
@@ -105,6 +109,7 @@ decodes Control = true
 decodes Data = true
 decodes Terminate = true
 decodes Error = false
+decodes LowPower = true
 
 abbrev pub errs : State → Bool
 errs Init = false
@@ -112,6 +117,7 @@ errs Control = false
 errs Data = false
 errs Terminate = false
 errs Error = true
+errs LowPower = false
 
 -- Document 02, 3/13: "begun means a block of kind S answered as decoded, replaced means answered as the error vector"
 abbrev pub begins : Judged → Bool
@@ -124,18 +130,18 @@ replaces j = errs (j .state)
 unfoldable pub handedOf : List Judged → Handed
 handedOf js = record { begun = howMany begins js; replaced = howMany replaces js }
 
--- ---- a fresh receiver over a whole line
+-- ---- a fresh receiver of an edition over a whole line
 
-unfoldable pub runOf : List ℕ → Run
-runOf line = run (at linkFresh) (lineBits line)
+unfoldable pub runOf : Edition → List ℕ → Run
+runOf ed line = run (at (linkFresh ed)) (lineBits line)
 
 -- its blocks in their states
-abbrev pub judgedOf : List ℕ → List Judged
-judgedOf line = judge Init (runOf line .tested)
+abbrev pub judgedOf : Edition → List ℕ → List Judged
+judgedOf ed line = judge Init (runOf ed line .tested)
 
 -- its vectors, and their bytes
-unfoldable pub vectorsOf : List ℕ → List (List ℕ)
-vectorsOf line = answers Init (runOf line .tested)
+unfoldable pub vectorsOf : Edition → List ℕ → List (List ℕ)
+vectorsOf ed line = answers Init (runOf ed line .tested)
 
-unfoldable pub receivedVectors : List ℕ → List ℕ
-receivedVectors line = flatten (vectorsOf line)
+unfoldable pub receivedVectors : Edition → List ℕ → List ℕ
+receivedVectors ed line = flatten (vectorsOf ed line)

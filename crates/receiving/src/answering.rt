@@ -14,7 +14,7 @@ ghost use Rattle.receiving.specs.Receive.{letsEnd, stateOf, answerIn, is
 ghost use Rattle.receiving.specs.Loop.{testedIn, heldState, heldBytes, heldHanded};
 ghost use Rattle.receiving.specs.Counted.{handOut, HandedWithin};
 
-// Whether the block before may end its frame: this one was tested in lock and not high, and is S or C.
+// Whether the block before may end its frame: this one was tested in lock and not high, and is S, C or LI.
 pub fn lets_end(next: Held) -> bool
     ensures { λ r. ⌜ r ≡ letsEnd (testedIn next) ⌝ }
 {
@@ -70,7 +70,7 @@ fn hand_out(n: Handed, s: State, h: Held) -> Out
             },
             handed: counting::count_vector(n, class, false),
         },
-        State::Control | State::Data | State::Terminate => Out {
+        State::Control | State::Terminate | State::LowPower | State::Data => Out {
             vector: v,
             handed: counting::count_vector(n, class, true),
         },
@@ -87,6 +87,7 @@ fn is_terminate(s: State) -> bool
         State::Control => false,
         State::Data => false,
         State::Error => false,
+        State::LowPower => false,
     }
 }
 

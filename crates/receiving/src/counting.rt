@@ -66,6 +66,7 @@ pub fn count_block(c: Counts, h: Held) -> Counts
         Class::C => r,
         Class::S => r,
         Class::T => r,
+        Class::LI => r,
         Class::Bad(why) => count_reason(r, why),
     }
 }
@@ -84,6 +85,7 @@ fn count_decoded(n: Handed, class: Class) -> Handed
             r
         }
         Class::T => r,
+        Class::LI => r,
         Class::Bad(_) => r,
     }
 }

@@ -1,5 +1,6 @@
 // Receiving a line: document 01, 'Diagrams' (Lock, Error rate, Receive), 'Scrambler' and 'Vectors, words and line bits'.
 use block::Class;
+use block::Edition;
 use block::Reason;
 use carrying::Carried;
 use carrying::nothing;
@@ -12,6 +13,7 @@ use refusals::Refusal;
 ghost use mathlib.Core.Path.{_≡_};
 ghost use Prim.Native.Nat.{_*_, _/_, _≤_, _<_};
 ghost use lib.ListN.{length};
+ghost use Rattle.block.specs.Block.{editionOf};
 ghost use Rattle.tables.specs.Tables.{tables, types};
 ghost use Rattle.carrying.specs.Carrying.{Sound};
 ghost use Rattle.receiving.specs.Answer.{Receives};
@@ -25,8 +27,9 @@ mod counting;
 // answering.rt: the vector of a block, once the next is known
 mod answering;
 
-// What each tested block updates: lock, error rate, and the last 58 payload bits of the line, the oldest at bit 0.
+// The edition in use, and what each tested block updates: lock, error rate, and the last 58 payload bits of the line, the oldest at bit 0.
 pub struct Link {
+    pub edition: Edition,
     pub lock: Lock,
     pub rate: Rate,
     pub history: u64,
@@ -96,7 +99,7 @@ pub struct Progress {
 
 // One turn: a whole block of the line, or one bit. A block that is full is tested, and the one held before it is answered.
 fn turn(t: &[u16; 3170], y: &[u8; 256], line: &[u8], room: &mut [u8], p: Progress) -> Progress
-    requires { ⌜ ((now t ≡ tables) × (now y ≡ types)) × (length (now line) ≤ 825000) × Under (now line) (now room) p × (p .pos < 8 * length (now line)) ⌝ }
+    requires { ⌜ ((now t ≡ tables (p .receiver .link .edition)) × (now y ≡ types)) × (length (now line) ≤ 825000) × Under (now line) (now room) p × (p .pos < 8 * length (now line)) ⌝ }
     ensures { λ r. ⌜ Turns (now (line .entry)) (now (room .entry)) (now (room .exit)) p r ⌝ }
 {
     let r = p.receiver;
@@ -159,7 +162,7 @@ fn receive_bits(
     room: &mut [u8],
     start: Receiver,
 ) -> Progress
-    requires { ⌜ ((now t ≡ tables) × (now y ≡ types)) × (length (now line) ≤ 825000) × InRange (start .link) × Sound (start .carried) × (length (written start (now line)) ≤ length (now room)) ⌝ }
+    requires { ⌜ ((now t ≡ tables (start .link .edition)) × (now y ≡ types)) × (length (now line) ≤ 825000) × InRange (start .link) × Sound (start .carried) × (length (written start (now line)) ≤ length (now room)) ⌝ }
     ensures { λ p. ⌜ Ends (now (line .entry)) (now (room .entry)) (now (room .exit)) start p ⌝ }
 {
     let bits = line.len() * 8;
@@ -186,14 +189,15 @@ fn receive_bits(
     p
 }
 
-// A receiver before the first bit.
-fn fresh() -> Receiver
-    ensures { λ r. ⌜ Fresh r ⌝ }
+// A receiver of an edition before the first bit.
+fn fresh(edition: Edition) -> Receiver
+    ensures { λ r. ⌜ Fresh edition r ⌝ }
 {
     Receiver {
         skip: false,
         carried: nothing(),
         link: Link {
+            edition: edition,
             lock: Lock {
                 tested: 0,
                 invalid: 0,
@@ -222,10 +226,16 @@ fn fresh() -> Receiver
     }
 }
 
-// Receiving with lent tables, those of the crate tables.
-fn receive_with(t: &[u16; 3170], y: &[u8; 256], line: &[u8], room: &mut [u8]) -> Received
-    requires { ⌜ (now t ≡ tables) × (now y ≡ types) ⌝ }
-    ensures { λ r. ⌜ Receives (now (line .entry)) (now (room .entry)) r (now (room .exit)) ⌝ }
+// Receiving in a known edition with its lent tables, those of the crate tables.
+fn receive_with(
+    t: &[u16; 3170],
+    y: &[u8; 256],
+    edition: u64,
+    line: &[u8],
+    room: &mut [u8],
+) -> Received
+    requires { ⌜ (now t ≡ tables (editionOf edition)) × (now y ≡ types) × (edition ≤ 1) ⌝ }
+    ensures { λ r. ⌜ Receives edition (now (line .entry)) (now (room .entry)) r (now (room .exit)) ⌝ }
 {
     if 825000 < line.len() {
         return Received::Refused(Refusal::TooMuch, 0);
@@ -233,7 +243,7 @@ fn receive_with(t: &[u16; 3170], y: &[u8; 256], line: &[u8], room: &mut [u8]) ->
     if room.len() < 10 * (8 * line.len() / 66) {
         return Received::Refused(Refusal::Room, 0);
     }
-    let p = receive_bits(t, y, line, room, fresh());
+    let p = receive_bits(t, y, line, room, fresh(tables::edition_of(edition)));
     let r = p.receiver;
     let at = p.at;
     let link = r.link;
@@ -257,11 +267,14 @@ fn receive_with(t: &[u16; 3170], y: &[u8; 256], line: &[u8], room: &mut [u8]) ->
     })
 }
 
-// Receiving a line: its vectors go to the room, from its start.
-pub fn receive(line: &[u8], room: &mut [u8]) -> Received
-    ensures { λ r. ⌜ Receives (now (line .entry)) (now (room .entry)) r (now (room .exit)) ⌝ }
+// Receiving a line in an edition (0 old, 1 new): its vectors go to the room, from its start.
+pub fn receive(edition: u64, line: &[u8], room: &mut [u8]) -> Received
+    ensures { λ r. ⌜ Receives edition (now (line .entry)) (now (room .entry)) r (now (room .exit)) ⌝ }
 {
-    let t = tables::block_tables();
+    if 1 < edition {
+        return Received::Refused(Refusal::UnknownEdition, 0);
+    }
+    let t = tables::block_tables(tables::edition_of(edition));
     let y = tables::type_table();
-    receive_with(&t, &y, line, room)
+    receive_with(&t, &y, edition, line, room)
 }

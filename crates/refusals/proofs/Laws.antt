@@ -8,7 +8,7 @@ use lib.Dec.{eqb, lit<}
 use Rattle.refusals.specs.Number.{numberOf}
 use Rattle.refusals.specs.First.{Check, Verdict, accepted, refused, first, byVerdict}
 use Rattle.refusals.specs.declared.Refusal.{Refusal}
-use Rattle.refusals.specs.declared.Refusal.the-variants.{TooMuch, NotGroups, StartState, Room, ControlByte, Cut, LongBody, RecordKind}
+use Rattle.refusals.specs.declared.Refusal.the-variants.{TooMuch, NotGroups, StartState, Room, ControlByte, Cut, LongBody, RecordKind, UnknownEdition}
 
 -- No two refusals have one number: the number tells the refusal.
 refusalOf : ℕ → Refusal
@@ -19,7 +19,8 @@ refusalOf n =
     (cond (eqb n 4) Room
     (cond (eqb n 5) ControlByte
     (cond (eqb n 6) Cut
-    (cond (eqb n 7) LongBody RecordKind))))))
+    (cond (eqb n 7) LongBody
+    (cond (eqb n 8) RecordKind UnknownEdition)))))))
 
 back : (r : Refusal) → refusalOf (numberOf r) ≡ r
 unfolding refusalOf
@@ -31,6 +32,7 @@ back ControlByte = refl
 back Cut = refl
 back LongBody = refl
 back RecordKind = refl
+back UnknownEdition = refl
 
 pub number-injective : (a b : Refusal) → numberOf a ≡ numberOf b → a ≡ b
 number-injective a b e = sym (back a) ∙ ap refusalOf e ∙ back b
@@ -45,6 +47,7 @@ number-positive ControlByte = lit< tt
 number-positive Cut = lit< tt
 number-positive LongBody = lit< tt
 number-positive RecordKind = lit< tt
+number-positive UnknownEdition = lit< tt
 
 -- Of an accepted list no row applies.
 pub passed : (c : Check) (cs : List Check) → first (c ∷ cs) ≡ accepted → (c .applies ≡ false) × (first cs ≡ accepted)

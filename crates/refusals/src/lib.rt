@@ -1,4 +1,4 @@
-// Document 01, 'Refusal numbers': the eight refusals, one enum for all crates.
+// Document 01, 'Refusal numbers', and document 02: the refusals, one enum for all crates.
 ghost use mathlib.Core.Path.{_≡_};
 ghost use Prim.Native.Nat.{_<_};
 ghost use Rattle.refusals.specs.Number.{numberOf};
@@ -20,6 +20,8 @@ pub enum Refusal {
     LongBody,
     // a record's kind that is unknown, or in a program not its own
     RecordKind,
+    // an edition that is neither old nor new
+    UnknownEdition,
 }
 
 // The number that the document gives a refusal.
@@ -35,5 +37,6 @@ pub fn number(r: Refusal) -> u64
         Refusal::Cut => 6,
         Refusal::LongBody => 7,
         Refusal::RecordKind => 8,
+        Refusal::UnknownEdition => 13,
     }
 }

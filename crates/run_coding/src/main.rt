@@ -8,6 +8,7 @@ ghost use mathlib.Core.Path.{_≡_};
 ghost use lib.ListN.{length};
 
 // received.rt: receiving
+mod editions;
 mod received;
 
 // captured.rt: records of a capture
@@ -94,7 +95,7 @@ fn run(letters: &[u8; 4], start: u64) {
     spell(letters, &mut vectors);
     print(letters);
     print(b": ");
-    print_answer(send(&vectors, start, &mut line));
+    print_answer(send(0, &vectors, start, &mut line));
     print_bytes(&line);
 }
 
@@ -118,9 +119,9 @@ fn back(bytes: &[u8]) -> &[u8] {
 // Sending into the first n bytes of a room.
 fn send_into(vectors: &[u8], room: &mut [u8], n: usize) -> Sent {
     if n <= room.len() {
-        return send(vectors, 0, &mut room[..n]);
+        return send(0, vectors, 0, &mut room[..n]);
     }
-    send(vectors, 0, room)
+    send(0, vectors, 0, room)
 }
 
 // Refusals, with what is left in the room.
@@ -146,10 +147,10 @@ fn run_refused() {
 // 100,000 vectors pass and 100,004 are refused.
 fn largest(vectors: &[u8], line: &mut [u8]) {
     print(b"100000 vectors: ");
-    print_answer(send(front(vectors, 1000000), 0, line));
+    print_answer(send(0, front(vectors, 1000000), 0, line));
     print_bytes(back(line));
     print(b"100004 vectors: ");
-    print_answer(send(vectors, 0, line));
+    print_answer(send(0, vectors, 0, line));
 }
 
 // Zeros, of which a caller knows the number only.
@@ -190,4 +191,5 @@ fn main() {
     run_largest();
     received::all();
     captured::all();
+    editions::all();
 }

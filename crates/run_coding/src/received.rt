@@ -80,7 +80,7 @@ fn run_in(
     flip_headers(line, 0, 0, blocks);
     flip_headers(line, first, others, end);
     print(name);
-    print_answer(receive(front(line, bytes_of(blocks)), room));
+    print_answer(receive(0, front(line, bytes_of(blocks)), room));
 }
 
 fn run(name: &[u8], blocks: usize, first: usize, others: usize, end: usize) {
@@ -95,10 +95,10 @@ fn run_zeros() {
     let mut room = [0xaau8; 10];
     let mut short = [0xaau8; 9];
     print(b"nine zero bytes: ");
-    print_answer(receive(&line, &mut room));
+    print_answer(receive(0, &line, &mut room));
     print_bytes(&room);
     print(b"into nine bytes of room: ");
-    print_answer(receive(&line, &mut short));
+    print_answer(receive(0, &line, &mut short));
     print_bytes(&short);
 }
 

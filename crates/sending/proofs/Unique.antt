@@ -22,6 +22,6 @@ answer-injective (Refused w p) (Refused w′ p′) e =
     let u = number-injective w w′ n in
     cc
 
-pub send-unique : (vectors room : List ℕ) (start : ℕ) (a b : Sent) (after after′ : List ℕ)
-    → Sends vectors start room a after → Sends vectors start room b after′ → (a ≡ b) × (after ≡ after′)
-send-unique vectors room start a b after after′ p q = (answer-injective a b (p .0 ∙ sym (q .0)), p .1 ∙ sym (q .1))
+pub send-unique : (edition : ℕ) (vectors room : List ℕ) (start : ℕ) (a b : Sent) (after after′ : List ℕ)
+    → Sends edition vectors start room a after → Sends edition vectors start room b after′ → (a ≡ b) × (after ≡ after′)
+send-unique edition vectors room start a b after after′ p q = (answer-injective a b (p .0 ∙ sym (q .0)), p .1 ∙ sym (q .1))

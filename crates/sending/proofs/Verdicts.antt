@@ -9,7 +9,8 @@ use lib.ListN.{length}
 use lib.Dec.{ltb, leb, eqb}
 use borrow.Author.Tests.{ltb-true, ltb-false}
 use Rattle.refusals.specs.First.{check, checkAt, Verdict, accepted, refused, first, byVerdict}
-use Rattle.block.specs.Block.{highControl}
+use Rattle.block.specs.declared.Edition.{Edition}
+use Rattle.block.specs.Block.{editionOf, highControl}
 use Rattle.sending.specs.Answer.{SendAnswer, sent, sendChecks, sentFor, sendAnswer}
 use Rattle.sending.specs.Answer as Answer
 
@@ -18,29 +19,30 @@ abbrev pub verdictOf : SendAnswer → Verdict
 verdictOf (sent state diagram replaced) = accepted
 verdictOf (Answer.refused number place) = refused number place
 
-told : (v : Verdict) (bytes : List ℕ) (start : ℕ) → verdictOf (byVerdict v (sentFor bytes start) Answer.refused) ≡ v
+told : (v : Verdict) (ed : Edition) (bytes : List ℕ) (start : ℕ) → verdictOf (byVerdict v (sentFor ed bytes start) Answer.refused) ≡ v
 unfolding sentFor
-told accepted bytes start = refl
-told (refused n p) bytes start = refl
+told accepted ed bytes start = refl
+told (refused n p) ed bytes start = refl
 
-pub verdict-told : (bytes : List ℕ) (start room : ℕ) → verdictOf (sendAnswer bytes start room) ≡ first (sendChecks bytes start room)
+pub verdict-told : (edition : ℕ) (bytes : List ℕ) (start room : ℕ) → verdictOf (sendAnswer edition bytes start room) ≡ first (sendChecks edition bytes start room)
 unfolding sendAnswer
-verdict-told bytes start room = told (first (sendChecks bytes start room)) bytes start
+verdict-told edition bytes start room = told (first (sendChecks edition bytes start room)) (editionOf edition) bytes start
 
 -- a refusal's place is 0, or it is that of a control byte
-placed : (a b c d e : Bool) (h n p : ℕ) → first (check 1 a ∷ check 2 b ∷ check 3 c ∷ check 4 d ∷ checkAt 5 h e ∷ []) ≡ refused n p
+placed : (z a b c d e : Bool) (h n p : ℕ) → first (check 13 z ∷ check 1 a ∷ check 2 b ∷ check 3 c ∷ check 4 d ∷ checkAt 5 h e ∷ []) ≡ refused n p
     → (p ≡ 0) ⊎ ((a ≡ false) × (e ≡ true) × (h ≡ p))
 unfolding first
-placed true b c d e h n p q = inl cc
-placed false true c d e h n p q = inl cc
-placed false false true d e h n p q = inl cc
-placed false false false true e h n p q = inl cc
-placed false false false false true h n p q = inr (refl, refl, cc)
-placed false false false false false h n p q = inl cc
+placed true a b c d e h n p q = inl cc
+placed false true b c d e h n p q = inl cc
+placed false false true c d e h n p q = inl cc
+placed false false false true d e h n p q = inl cc
+placed false false false false true e h n p q = inl cc
+placed false false false false false true h n p q = inr (refl, refl, cc)
+placed false false false false false false h n p q = inl cc
 
-pub place-small : (bytes : List ℕ) (start room n p : ℕ) → first (sendChecks bytes start room) ≡ refused n p → p ≤ 1000000
+pub place-small : (edition : ℕ) (bytes : List ℕ) (start room n p : ℕ) → first (sendChecks edition bytes start room) ≡ refused n p → p ≤ 1000000
 unfolding sendChecks
-place-small bytes start room n p q =
+place-small edition bytes start room n p q =
     ⊎-elim (λ z. omega arith) (λ t. omega (arith, ltb-false 1000000 (length bytes) (t .0), ltb-true (highControl bytes) (length bytes) (t .1)))
-    (placed (ltb 1000000 (length bytes)) (not (eqb (length bytes % 40) 0)) (leb (2 ^ 58) start) (ltb room (33 * (length bytes / 40)))
+    (placed (ltb 1 edition) (ltb 1000000 (length bytes)) (not (eqb (length bytes % 40) 0)) (leb (2 ^ 58) start) (ltb room (33 * (length bytes / 40)))
     (ltb (highControl bytes) (length bytes)) (highControl bytes) n p q)

@@ -8,17 +8,19 @@ use lib.Dec.{ltb, leb, eqb}
 use Rattle.refusals.specs.Number.{numberOf}
 use Rattle.refusals.specs.First.{Check, check, first, byVerdict}
 use Rattle.scrambler.specs.Scrambler.{mirror}
-use Rattle.block.specs.Block.{controlCheck}
+use Rattle.block.specs.declared.Edition.{Edition}
+use Rattle.block.specs.Block.{editionOf, editionCheck, controlCheck}
 use Rattle.diagrams.specs.Diagram.{stateNumber}
 use Rattle.diagrams.specs.declared.State.the-variants.{Init}
 use Rattle.sending.specs.Send.{vectorsOf, stateAfter, replaced, historyOver, blocksFor, sentLine}
 use Rattle.sending.specs.declared.Sent.{Sent}
 use Rattle.sending.specs.declared.Sent.the-variants.{Done, Refused}
 
--- "sending 1, 2, 3, 4, 5"
-unfoldable pub sendChecks : List ℕ → (start room : ℕ) → List Check
-sendChecks bytes start room =
-    check 1 (ltb 1000000 (length bytes))
+-- "sending 1, 2, 3, 4, 5"; 9/13: "13, edition unknown, checked before all others"
+unfoldable pub sendChecks : ℕ → List ℕ → (start room : ℕ) → List Check
+sendChecks edition bytes start room =
+    editionCheck edition
+    ∷ check 1 (ltb 1000000 (length bytes))
     ∷ check 2 (not (eqb (length bytes % 40) 0))
     ∷ check 3 (leb (2 ^ 58) start)
     ∷ check 4 (ltb room (33 * (length bytes / 40)))
@@ -31,18 +33,18 @@ pub data SendAnswer : Type 0 where
   refused : (number place : ℕ) → SendAnswer
 
 -- the answer of a list that is not refused
-unfoldable pub sentFor : List ℕ → ℕ → SendAnswer
-sentFor bytes start =
-    sent (mirror (historyOver (mirror start) (blocksFor bytes))) (stateNumber (stateAfter Init (vectorsOf bytes))) (replaced Init (vectorsOf bytes))
+unfoldable pub sentFor : Edition → List ℕ → ℕ → SendAnswer
+sentFor ed bytes start =
+    sent (mirror (historyOver (mirror start) (blocksFor ed bytes))) (stateNumber (stateAfter ed Init (vectorsOf bytes))) (replaced ed Init (vectorsOf bytes))
 
-unfoldable pub sendAnswer : List ℕ → (start room : ℕ) → SendAnswer
-sendAnswer bytes start room = byVerdict (first (sendChecks bytes start room)) (sentFor bytes start) refused
+unfoldable pub sendAnswer : (edition : ℕ) → List ℕ → (start room : ℕ) → SendAnswer
+sendAnswer edition bytes start room = byVerdict (first (sendChecks edition bytes start room)) (sentFor (editionOf edition) bytes start) refused
 
 -- "Success writes exactly the stated bytes from the start of the lent room; the rest is unchanged." A refusal changes nothing.
-unfoldable pub sendRoom : List ℕ → ℕ → List ℕ → List ℕ
-sendRoom bytes start room =
-    byVerdict (first (sendChecks bytes start (length room)))
-    (sentLine bytes start ++ drop (length (sentLine bytes start)) room)
+unfoldable pub sendRoom : (edition : ℕ) → List ℕ → ℕ → List ℕ → List ℕ
+sendRoom edition bytes start room =
+    byVerdict (first (sendChecks edition bytes start (length room)))
+    (sentLine (editionOf edition) bytes start ++ drop (length (sentLine (editionOf edition) bytes start)) room)
     (λ number place. room)
 
 -- the document's number and values for each case of the answer
@@ -51,5 +53,5 @@ answerOf (Done s) = sent (s .state) (s .diagram) (s .replaced)
 answerOf (Refused why place) = refused (numberOf why) place
 
 -- the promise: `send` was lent `room` for the line, answered `r` and left `room′`
-abbrev pub Sends : (bytes : List ℕ) (start : ℕ) (room : List ℕ) (r : Sent) (room′ : List ℕ) → Type 0
-Sends bytes start room r room′ = (answerOf r ≡ sendAnswer bytes start (length room)) × (room′ ≡ sendRoom bytes start room)
+abbrev pub Sends : (edition : ℕ) (bytes : List ℕ) (start : ℕ) (room : List ℕ) (r : Sent) (room′ : List ℕ) → Type 0
+Sends edition bytes start room r room′ = (answerOf r ≡ sendAnswer edition bytes start (length room)) × (room′ ≡ sendRoom edition bytes start room)

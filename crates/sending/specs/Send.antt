@@ -6,10 +6,11 @@ use Rattle.bits.specs.Bits.{streamBit, cut}
 use Rattle.scrambler.specs.Scrambler.{scrambled, historyAfter, mirror}
 use Rattle.line.specs.Word.{word}
 use Rattle.line.specs.declared.Block.{Block}
+use Rattle.block.specs.declared.Edition.{Edition}
 use Rattle.block.specs.Block.{Carrier, block, none, carrier, vectorKind, errorPayload}
 use Rattle.diagrams.specs.Diagram.{transmitOf}
 use Rattle.diagrams.specs.declared.State.{State}
-use Rattle.diagrams.specs.declared.State.the-variants.{Init, Control, Data, Terminate, Error}
+use Rattle.diagrams.specs.declared.State.the-variants.{Init, Control, Data, Terminate, Error, LowPower}
 
 -- "A vector is two words, ten bytes": the first k vectors of a list of bytes
 unfoldable pub vectorsIn : ℕ → List ℕ → List (List ℕ)
@@ -27,14 +28,6 @@ abbrev pub ownBlock : Carrier → Block
 ownBlock (block kind header payload) = record { header = header; payload = payload }
 ownBlock none = errorBlock
 
--- "In state E the sent block is type 1e with eight codes 1e, else the vector's own."
-unfoldable pub blockIn : State → List ℕ → Block
-blockIn Error v = errorBlock
-blockIn Init v = ownBlock (carrier v)
-blockIn Control v = ownBlock (carrier v)
-blockIn Data v = ownBlock (carrier v)
-blockIn Terminate v = ownBlock (carrier v)
-
 -- a vector sent in state E is replaced
 abbrev pub replacedIn : State → ℕ
 replacedIn Error = 1
@@ -42,27 +35,38 @@ replacedIn Init = 0
 replacedIn Control = 0
 replacedIn Data = 0
 replacedIn Terminate = 0
+replacedIn LowPower = 0
 
--- ---- a list of vectors, from a state of the transmit diagram
+module _ (ed : Edition) where
+  -- "In state E the sent block is type 1e with eight codes 1e, else the vector's own." 9/13: "An added state sends the vector's own block".
+  unfoldable pub blockIn : State → List ℕ → Block
+  blockIn Error v = errorBlock
+  blockIn Init v = ownBlock (carrier ed v)
+  blockIn Control v = ownBlock (carrier ed v)
+  blockIn Data v = ownBlock (carrier ed v)
+  blockIn Terminate v = ownBlock (carrier ed v)
+  blockIn LowPower v = ownBlock (carrier ed v)
 
--- the state after the last
-unfoldable pub stateAfter : State → List (List ℕ) → State
-stateAfter s [] = s
-stateAfter s (v ∷ vs) = stateAfter (transmitOf s (vectorKind v)) vs
+  -- ---- a list of vectors, from a state of the transmit diagram
 
--- how many are replaced
-unfoldable pub replaced : State → List (List ℕ) → ℕ
-replaced s [] = 0
-replaced s (v ∷ vs) =
-    let s′ = transmitOf s (vectorKind v) in
-    replacedIn s′ + replaced s′ vs
+  -- the state after the last
+  unfoldable pub stateAfter : State → List (List ℕ) → State
+  stateAfter s [] = s
+  stateAfter s (v ∷ vs) = stateAfter (transmitOf s (vectorKind ed v)) vs
 
--- the blocks before scrambling
-unfoldable pub sentBlocks : State → List (List ℕ) → List Block
-sentBlocks s [] = []
-sentBlocks s (v ∷ vs) =
-    let s′ = transmitOf s (vectorKind v) in
-    blockIn s′ v ∷ sentBlocks s′ vs
+  -- how many are replaced
+  unfoldable pub replaced : State → List (List ℕ) → ℕ
+  replaced s [] = 0
+  replaced s (v ∷ vs) =
+      let s′ = transmitOf s (vectorKind ed v) in
+      replacedIn s′ + replaced s′ vs
+
+  -- the blocks before scrambling
+  unfoldable pub sentBlocks : State → List (List ℕ) → List Block
+  sentBlocks s [] = []
+  sentBlocks s (v ∷ vs) =
+      let s′ = transmitOf s (vectorKind ed v) in
+      blockIn s′ v ∷ sentBlocks s′ vs
 
 -- ---- scrambling, from a history of payload bits: "Only payload bits."
 
@@ -86,10 +90,11 @@ historyOver h (b ∷ bs) = historyOver (historyAfter (b .payload) h) bs
 abbrev pub vectorsOf : List ℕ → List (List ℕ)
 vectorsOf bytes = vectorsIn (length bytes / 10) bytes
 
--- the blocks sent for vector bytes: "Transmit, from INIT"
-unfoldable pub blocksFor : List ℕ → List Block
-blocksFor bytes = sentBlocks Init (vectorsOf bytes)
+module _ (ed : Edition) where
+  -- the blocks sent for vector bytes: "Transmit, from INIT"
+  unfoldable pub blocksFor : List ℕ → List Block
+  blocksFor bytes = sentBlocks ed Init (vectorsOf bytes)
 
--- "A block is 66 line bits, so four vectors (40 bytes) give 33 line bytes."
-unfoldable pub sentLine : List ℕ → ℕ → List ℕ
-sentLine bytes start = cut 8 (streamBit 66 (lineWords (mirror start) (blocksFor bytes))) (33 * (length bytes / 40))
+  -- "A block is 66 line bits, so four vectors (40 bytes) give 33 line bytes."
+  unfoldable pub sentLine : List ℕ → ℕ → List ℕ
+  sentLine bytes start = cut 8 (streamBit 66 (lineWords (mirror start) (blocksFor bytes))) (33 * (length bytes / 40))

@@ -6,8 +6,9 @@ use lib.ListN.{length, getD, drop}
 use Rattle.bits.specs.Bits.{streamBit, cut}
 use Rattle.line.specs.Word.{word}
 use Rattle.line.specs.declared.Block.{Block}
+use Rattle.block.specs.declared.Edition.{Edition}
 use Rattle.diagrams.specs.declared.State.{State}
-use Rattle.diagrams.specs.declared.State.the-variants.{Init, Control, Data, Terminate, Error}
+use Rattle.diagrams.specs.declared.State.the-variants.{Init, Control, Data, Terminate, Error, LowPower}
 use Rattle.sending.specs.Send.{vectorsOf, errorBlock, stateAfter, replaced, sentBlocks, lineWords, historyOver}
 use Rattle.sending.specs.declared.Sender.{Sender}
 use Rattle.sending.specs.declared.Step.{Step}
@@ -24,17 +25,18 @@ chosen Init b = b
 chosen Control b = b
 chosen Data b = b
 chosen Terminate b = b
+chosen LowPower b = b
 
 -- From where s stands, these vectors go on the line as these words, and sending then stands at r.
-pub record Sends (s : Sender) (vectors : List (List ℕ)) (words : List ℕ) (r : Sender) : Type 0 where
-  pub diagram : r .diagram ≡ stateAfter (s .diagram) vectors
-  pub history : r .history ≡ historyOver (s .history) (sentBlocks (s .diagram) vectors)
-  pub count : r .replaced ≡ s .replaced + replaced (s .diagram) vectors
-  pub line : words ≡ lineWords (s .history) (sentBlocks (s .diagram) vectors)
+pub record Sends (ed : Edition) (s : Sender) (vectors : List (List ℕ)) (words : List ℕ) (r : Sender) : Type 0 where
+  pub diagram : r .diagram ≡ stateAfter ed (s .diagram) vectors
+  pub history : r .history ≡ historyOver (s .history) (sentBlocks ed (s .diagram) vectors)
+  pub count : r .replaced ≡ s .replaced + replaced ed (s .diagram) vectors
+  pub line : words ≡ lineWords (s .history) (sentBlocks ed (s .diagram) vectors)
 
 -- One vector from where s stands: its block on the line, with a header of two bits, and where sending then stands.
-pub record Steps (s : Sender) (vector : List ℕ) (r : Step) : Type 0 where
-  pub sends : Sends s (vector ∷ []) (word (r .block) ∷ []) (r .next)
+pub record Steps (ed : Edition) (s : Sender) (vector : List ℕ) (r : Step) : Type 0 where
+  pub sends : Sends ed s (vector ∷ []) (word (r .block) ∷ []) (r .next)
   pub header : r .block .header < 4
 
 -- Four blocks that go on the line: their words, and that their headers have two bits.
@@ -48,16 +50,16 @@ pub record TwoBits (a b c d : Block) : Type 0 where
   pub fourth : d .header < 4
 
 -- Four vectors from where s stands.
-pub record Groups (s : Sender) (vectors : List (List ℕ)) (r : Group) : Type 0 where
-  pub sends : Sends s vectors (wordsOf (r .a) (r .b) (r .c) (r .d)) (r .next)
+pub record Groups (ed : Edition) (s : Sender) (vectors : List (List ℕ)) (r : Group) : Type 0 where
+  pub sends : Sends ed s vectors (wordsOf (r .a) (r .b) (r .c) (r .d)) (r .next)
   pub headers : TwoBits (r .a) (r .b) (r .c) (r .d)
 
 -- All vectors of these bytes from where s stands: their line at the start of the room, and where sending then stands.
-abbrev pub wordsFor : Sender → List (List ℕ) → List ℕ
-wordsFor s vectors = lineWords (s .history) (sentBlocks (s .diagram) vectors)
+abbrev pub wordsFor : Edition → Sender → List (List ℕ) → List ℕ
+wordsFor ed s vectors = lineWords (s .history) (sentBlocks ed (s .diagram) vectors)
 
-pub record Fills (s : Sender) (bytes before after : List ℕ) (r : Sender) : Type 0 where
-  pub sends : Sends s (vectorsOf bytes) (wordsFor s (vectorsOf bytes)) r
+pub record Fills (ed : Edition) (s : Sender) (bytes before after : List ℕ) (r : Sender) : Type 0 where
+  pub sends : Sends ed s (vectorsOf bytes) (wordsFor ed s (vectorsOf bytes)) r
   pub room :
       after
-      ≡ cut 8 (streamBit 66 (wordsFor s (vectorsOf bytes))) (33 * (length bytes / 40)) ++ drop (33 * (length bytes / 40)) before
+      ≡ cut 8 (streamBit 66 (wordsFor ed s (vectorsOf bytes))) (33 * (length bytes / 40)) ++ drop (33 * (length bytes / 40)) before

@@ -1,4 +1,5 @@
 // Sending a list of vectors: document 01, 'Diagrams' (Transmit), 'Scrambler' and 'Vectors, words and line bits'.
+use block::Edition;
 use diagrams::State;
 use diagrams::diagram_step;
 use diagrams::state_number;
@@ -11,6 +12,7 @@ use refusals::Refusal;
 use scrambler::mirrored;
 use scrambler::scramble;
 use tables::block_tables;
+use tables::edition_of;
 ghost use mathlib.Core.Path.{_≡_};
 ghost use mathlib.Core.List.{List, _++_};
 ghost use Prim.Native.Nat.{ℕ, _+_, _*_, _/_, _%_, _^_, _<_, _≤_};
@@ -18,7 +20,7 @@ ghost use lib.ListN.{length, getD, take, drop};
 ghost use Rattle.block.specs.Block.{carrier, highControl};
 ghost use Rattle.encoding.specs.Answer.{codedOf};
 ghost use Rattle.line.specs.Word.{word};
-ghost use Rattle.tables.specs.Tables.{tables};
+ghost use Rattle.tables.specs.Tables.{editionIn, Lent};
 ghost use Rattle.sending.specs.Send.{replacedIn, vectorsIn, sentLine};
 ghost use Rattle.sending.specs.Answer.{sent, sentFor, Sends};
 ghost use Rattle.sending.specs.Sends.{Low, chosen, Steps, Groups, Fills};
@@ -61,8 +63,8 @@ struct Group {
 
 // The vector at a place of the vector bytes, encoded.
 fn vector_at(t: &[u16; 3170], bytes: &[u8], at: usize) -> Coded
-    requires { ⌜ (now t ≡ tables) × (at + 10 ≤ length (now bytes)) × (getD (now bytes) at 0 ≤ 15) × (getD (now bytes) (at + 5) 0 ≤ 15) ⌝ }
-    ensures { λ r. ⌜ r ≡ codedOf (carrier (take 10 (drop at (now (bytes .entry))))) ⌝ }
+    requires { ⌜ Lent (now t) × (at + 10 ≤ length (now bytes)) × (getD (now bytes) at 0 ≤ 15) × (getD (now bytes) (at + 5) 0 ≤ 15) ⌝ }
+    ensures { λ r. ⌜ r ≡ codedOf (carrier (editionIn (now (t .entry))) (take 10 (drop at (now (bytes .entry))))) ⌝ }
 {
     let c0 = bytes[at];
     let c1 = bytes[at + 5];
@@ -82,6 +84,7 @@ fn block_in(s: State, own: Block) -> Block
         State::Control => own,
         State::Data => own,
         State::Terminate => own,
+        State::LowPower => own,
     }
 }
 
@@ -95,13 +98,14 @@ fn replaced_in(s: State) -> u64
         State::Control => 0,
         State::Data => 0,
         State::Terminate => 0,
+        State::LowPower => 0,
     }
 }
 
 // One vector sent: the diagram's step, the block of its state, and the scrambler over its payload.
 fn send_one(e: Coded, s: Sender) -> Step
     requires { ⌜ (s .history < 2 ^ 58) × (s .replaced < 2 ^ 63) ⌝ }
-    ensures { λ r. ⌜ ((v : List ℕ) → e ≡ codedOf (carrier v) → Steps s v r) ⌝ }
+    ensures { λ r. ⌜ ((ed : Edition) (v : List ℕ) → e ≡ codedOf (carrier ed v) → Steps ed s v r) ⌝ }
 {
     let before = s.diagram;
     let kind = e.kind;
@@ -128,8 +132,8 @@ fn send_one(e: Coded, s: Sender) -> Step
 
 // Four vectors sent, from a place of the vector bytes on. The blocks move up with each vector, so that one call sends all four.
 fn send_four(t: &[u16; 3170], bytes: &[u8], at: usize, s: Sender) -> Group
-    requires { ⌜ (now t ≡ tables) × (at + 40 ≤ length (now bytes)) × (s .history < 2 ^ 58) × (s .replaced ≤ 1000000) × (at % 5 ≡ 0) × Low (now bytes) ⌝ }
-    ensures { λ r. ⌜ Groups s (vectorsIn 4 (drop at (now (bytes .entry)))) r ⌝ }
+    requires { ⌜ Lent (now t) × (at + 40 ≤ length (now bytes)) × (s .history < 2 ^ 58) × (s .replaced ≤ 1000000) × (at % 5 ≡ 0) × Low (now bytes) ⌝ }
+    ensures { λ r. ⌜ Groups (editionIn (now (t .entry))) s (vectorsIn 4 (drop at (now (bytes .entry)))) r ⌝ }
 {
     let none = Block {
         header: 0,
@@ -162,8 +166,8 @@ fn send_four(t: &[u16; 3170], bytes: &[u8], at: usize, s: Sender) -> Group
 
 // All groups sent, each as 33 bytes of the room.
 fn send_groups(t: &[u16; 3170], bytes: &[u8], s: Sender, room: &mut [u8]) -> Sender
-    requires { ⌜ (now t ≡ tables) × (length (now bytes) ≤ 1000000) × (length (now bytes) % 40 ≡ 0) × (33 * (length (now bytes) / 40) ≤ length (now room)) × (s .history < 2 ^ 58) × (s .replaced ≡ 0) × Low (now bytes) ⌝ }
-    ensures { λ r. ⌜ Fills s (now (bytes .entry)) (now (room .entry)) (now (room .exit)) r ⌝ }
+    requires { ⌜ Lent (now t) × (length (now bytes) ≤ 1000000) × (length (now bytes) % 40 ≡ 0) × (33 * (length (now bytes) / 40) ≤ length (now room)) × (s .history < 2 ^ 58) × (s .replaced ≡ 0) × Low (now bytes) ⌝ }
+    ensures { λ r. ⌜ Fills (editionIn (now (t .entry))) s (now (bytes .entry)) (now (room .entry)) (now (room .exit)) r ⌝ }
 {
     let groups = bytes.len() / 40;
     let mut next = s;
@@ -181,18 +185,18 @@ fn send_groups(t: &[u16; 3170], bytes: &[u8], s: Sender, room: &mut [u8]) -> Sen
     next
 }
 
-// All vectors sent, from INIT and a start state.
-fn send_all(vectors: &[u8], start: u64, line: &mut [u8]) -> Sending
+// All vectors sent in an edition, from INIT and a start state.
+fn send_all(edition: Edition, vectors: &[u8], start: u64, line: &mut [u8]) -> Sending
     requires { ⌜ (length (now vectors) ≤ 1000000) × (length (now vectors) % 40 ≡ 0) × (33 * (length (now vectors) / 40) ≤ length (now line)) × Low (now vectors) ⌝ }
-    ensures { λ r. ⌜ sent (r .state) (r .diagram) (r .replaced) ≡ sentFor (now (vectors .entry)) start ⌝ }
-    ensures { λ r. ⌜ now (line .exit) ≡ sentLine (now (vectors .entry)) start ++ drop (length (sentLine (now (vectors .entry)) start)) (now (line .entry)) ⌝ }
+    ensures { λ r. ⌜ sent (r .state) (r .diagram) (r .replaced) ≡ sentFor edition (now (vectors .entry)) start ⌝ }
+    ensures { λ r. ⌜ now (line .exit) ≡ sentLine edition (now (vectors .entry)) start ++ drop (length (sentLine edition (now (vectors .entry)) start)) (now (line .entry)) ⌝ }
 {
     let first = Sender {
         diagram: State::Init,
         history: mirrored(start),
         replaced: 0,
     };
-    let tables = block_tables();
+    let tables = block_tables(edition);
     let end = send_groups(&tables, vectors, first, line);
     let diagram = end.diagram;
     Sending {
@@ -217,10 +221,14 @@ fn high_control(bytes: &[u8]) -> usize
     at
 }
 
-// Sends a list of vectors from a start state below 2^58. Its line goes to the start of the lent room; a refusal changes nothing.
-pub fn send(vectors: &[u8], start: u64, line: &mut [u8]) -> Sent
-    ensures { λ r. ⌜ Sends (now (vectors .entry)) start (now (line .entry)) r (now (line .exit)) ⌝ }
+// Sends a list of vectors in an edition (0 old, 1 new), from a start state below 2^58. Its line goes to the start of the lent room; a refusal
+// changes nothing.
+pub fn send(edition: u64, vectors: &[u8], start: u64, line: &mut [u8]) -> Sent
+    ensures { λ r. ⌜ Sends edition (now (vectors .entry)) start (now (line .entry)) r (now (line .exit)) ⌝ }
 {
+    if 1 < edition {
+        return Sent::Refused(Refusal::UnknownEdition, 0);
+    }
     let n = vectors.len();
     if 1000000 < n {
         return Sent::Refused(Refusal::TooMuch, 0);
@@ -238,5 +246,6 @@ pub fn send(vectors: &[u8], start: u64, line: &mut [u8]) -> Sent
     if high < n {
         return Sent::Refused(Refusal::ControlByte, high);
     }
-    Sent::Done(send_all(vectors, start, line))
+    let e = edition_of(edition);
+    Sent::Done(send_all(e, vectors, start, line))
 }

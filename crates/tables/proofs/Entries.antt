@@ -5,9 +5,12 @@ use Prim.Native.Nat.{ℕ, zero, suc, _+_, _^_, _<_}
 use native.Mathlib.Nat.{add-zero, zero-add, add-suc, suc-add, le-of-suc-le-suc, not-suc-le-zero}
 use lib.ListN.{getD, take, drop}
 use lib.Seq.{getD-take, getD-drop}
+use borrow.Author.Tests.{lt-ltb}
+use Rattle.block.specs.declared.Edition.{Edition}
+use Rattle.block.specs.declared.Edition.the-variants.{Old, New}
 use Rattle.block.specs.Block.{Slot, Control, Calm, Data, Set, Start, Terminate, flagsAt, codeOf, octetOf}
 use Rattle.block.specs.Rows.{width, row, rowOf}
-use Rattle.tables.specs.Tables.{upto, types, tables, kindNumber, shiftBy, maskBy, octetsFrom, baseBy, laneBy, codesFrom, fromBy, atBy, firstBy, nextBy}
+use Rattle.tables.specs.Tables.{upto, types, tables, editionIn, Lent, kindNumber, shiftBy, maskBy, octetsFrom, baseBy, laneBy, codesFrom, fromBy, atBy, firstBy, nextBy}
 
 from : {A : Type 0} (f : ℕ → A) (z : A) (n i k : ℕ) → k < n → getD (map f (upto i n)) k z ≡ f (i + k)
 from f z zero i k h = absurd (not-suc-le-zero h)
@@ -18,83 +21,97 @@ from f z (suc n) i (suc k) h = from f z n (suc i) k (le-of-suc-le-suc h) ∙ ap 
 entry : {A : Type 0} (f : ℕ → A) (z : A) (n k : ℕ) → k < n → getD (map f (upto 0 n)) k z ≡ f k
 entry f z n k h = from f z n 0 k h ∙ ap f (zero-add k)
 
--- the part of n entries from b on
-part : (f : ℕ → ℕ) (b n : ℕ) → take n (drop b tables) ≡ map f (upto 0 n) → (t : List ℕ) → t ≡ tables → (k : ℕ) → k < n → getD t (b + k) 0 ≡ f k
-part f b n e t q k h =
-    ap (λ (l : List ℕ). getD l (b + k) 0) q
-    ∙ sym (getD-drop b tables k 0)
-    ∙ sym (getD-take n (drop b tables) k 0 h)
-    ∙ ap (λ (l : List ℕ). getD l k 0) e
-    ∙ entry f 0 n k h
-
 pub type-at : (t : List ℕ) → t ≡ types → (k : ℕ) → k < 256 → getD t k 0 ≡ rowOf k
 unfolding types
 type-at t e k h = ap (λ (l : List ℕ). getD l k 0) e ∙ entry rowOf 0 256 k h
 
+-- the part of n entries from b on
+part : (ed : Edition) (f : ℕ → ℕ) (b n : ℕ) → take n (drop b (tables ed)) ≡ map f (upto 0 n) → (t : List ℕ) → t ≡ tables ed → (k : ℕ) → k < n → getD t (b + k) 0 ≡ f k
+part ed f b n e t q k h =
+    ap (λ (l : List ℕ). getD l (b + k) 0) q
+    ∙ sym (getD-drop b (tables ed) k 0)
+    ∙ sym (getD-take n (drop b (tables ed)) k 0 h)
+    ∙ ap (λ (l : List ℕ). getD l k 0) e
+    ∙ entry f 0 n k h
+
 -- the octet of a slot's bits
-pub octet-of : (s : Slot) (t : List ℕ) → t ≡ tables → (v : ℕ) → v < 2 ^ width s → getD t (octetsFrom s + v) 0 ≡ octetOf s v
+pub octet-of : (s : Slot) (t : List ℕ) → Lent t → (v : ℕ) → v < 2 ^ width s → getD t (octetsFrom s + v) 0 ≡ octetOf (editionIn t) s v
 unfolding tables
-octet-of Data = part (octetOf Data) 0 256 refl
-octet-of Control = part (octetOf Control) 256 128 refl
-octet-of Calm = part (octetOf Calm) 384 128 refl
-octet-of Set = part (octetOf Set) 512 16 refl
-octet-of Start = part (octetOf Start) 528 1 refl
-octet-of Terminate = part (octetOf Terminate) 529 1 refl
+octet-of Data t q = part (editionIn t) (octetOf (editionIn t) Data) 0 256 refl t q
+octet-of Control t q = part (editionIn t) (octetOf (editionIn t) Control) 256 128 refl t q
+octet-of Calm t q = part (editionIn t) (octetOf (editionIn t) Calm) 384 128 refl t q
+octet-of Set t q = part (editionIn t) (octetOf (editionIn t) Set) 512 16 refl t q
+octet-of Start t q = part (editionIn t) (octetOf (editionIn t) Start) 528 1 refl t q
+octet-of Terminate t q = part (editionIn t) (octetOf (editionIn t) Terminate) 529 1 refl t q
 
-pub shift-at : (t : List ℕ) → t ≡ tables → (k : ℕ) → k < 128 → getD t (530 + k) 0 ≡ shiftBy k
+pub shift-at : (t : List ℕ) → Lent t → (k : ℕ) → k < 128 → getD t (530 + k) 0 ≡ shiftBy k
 unfolding tables
-shift-at = part shiftBy 530 128 refl
+shift-at t q = part (editionIn t) shiftBy 530 128 refl t q
 
-pub mask-at : (t : List ℕ) → t ≡ tables → (k : ℕ) → k < 128 → getD t (658 + k) 0 ≡ maskBy k
+pub mask-at : (t : List ℕ) → Lent t → (k : ℕ) → k < 128 → getD t (658 + k) 0 ≡ maskBy k
 unfolding tables
-mask-at = part maskBy 658 128 refl
+mask-at t q = part (editionIn t) maskBy 658 128 refl t q
 
-pub base-at : (t : List ℕ) → t ≡ tables → (k : ℕ) → k < 128 → getD t (786 + k) 0 ≡ baseBy k
+pub base-at : (t : List ℕ) → Lent t → (k : ℕ) → k < 128 → getD t (786 + k) 0 ≡ baseBy k
 unfolding tables
-base-at = part baseBy 786 128 refl
+base-at t q = part (editionIn t) baseBy 786 128 refl t q
 
-pub low-at : (t : List ℕ) → t ≡ tables → (r : ℕ) → r < 16 → getD t (914 + r) 0 ≡ flagsAt (row r .fields) 0
+pub low-at : (t : List ℕ) → Lent t → (r : ℕ) → r < 16 → getD t (914 + r) 0 ≡ flagsAt (row r .fields) 0
 unfolding tables
-low-at = part (λ (r : ℕ). flagsAt (row r .fields) 0) 914 16 refl
+low-at t q = part (editionIn t) (λ (r : ℕ). flagsAt (row r .fields) 0) 914 16 refl t q
 
-pub high-at : (t : List ℕ) → t ≡ tables → (r : ℕ) → r < 16 → getD t (930 + r) 0 ≡ flagsAt (row r .fields) 4
+pub high-at : (t : List ℕ) → Lent t → (r : ℕ) → r < 16 → getD t (930 + r) 0 ≡ flagsAt (row r .fields) 4
 unfolding tables
-high-at = part (λ (r : ℕ). flagsAt (row r .fields) 4) 930 16 refl
+high-at t q = part (editionIn t) (λ (r : ℕ). flagsAt (row r .fields) 4) 930 16 refl t q
 
-pub kind-at : (t : List ℕ) → t ≡ tables → (r : ℕ) → r < 16 → getD t (946 + r) 0 ≡ kindNumber (row r .kind)
+pub kind-at : (t : List ℕ) → Lent t → (r : ℕ) → r < 16 → getD t (946 + r) 0 ≡ kindNumber (row r .kind)
 unfolding tables
-kind-at = part (λ (r : ℕ). kindNumber (row r .kind)) 946 16 refl
+kind-at t q = part (editionIn t) (λ (r : ℕ). kindNumber (row r .kind)) 946 16 refl t q
 
-pub lead-at : (t : List ℕ) → t ≡ tables → (r : ℕ) → r < 16 → getD t (962 + r) 0 ≡ row r .type
+pub lead-at : (t : List ℕ) → Lent t → (r : ℕ) → r < 16 → getD t (962 + r) 0 ≡ row r .type
 unfolding tables
-lead-at = part (λ (r : ℕ). row r .type) 962 16 refl
+lead-at t q = part (editionIn t) (λ (r : ℕ). row r .type) 962 16 refl t q
 
-pub lane-at : (t : List ℕ) → t ≡ tables → (k : ℕ) → k < 128 → getD t (978 + k) 0 ≡ laneBy k
+pub lane-at : (t : List ℕ) → Lent t → (k : ℕ) → k < 128 → getD t (978 + k) 0 ≡ laneBy k
 unfolding tables
-lane-at = part laneBy 978 128 refl
+lane-at t q = part (editionIn t) laneBy 978 128 refl t q
 
-pub from-at : (t : List ℕ) → t ≡ tables → (k : ℕ) → k < 128 → getD t (1106 + k) 0 ≡ fromBy k
+pub from-at : (t : List ℕ) → Lent t → (k : ℕ) → k < 128 → getD t (1106 + k) 0 ≡ fromBy k
 unfolding tables
-from-at = part fromBy 1106 128 refl
+from-at t q = part (editionIn t) fromBy 1106 128 refl t q
 
-pub place-at : (t : List ℕ) → t ≡ tables → (k : ℕ) → k < 128 → getD t (1234 + k) 0 ≡ atBy k
+pub place-at : (t : List ℕ) → Lent t → (k : ℕ) → k < 128 → getD t (1234 + k) 0 ≡ atBy k
 unfolding tables
-place-at = part atBy 1234 128 refl
+place-at t q = part (editionIn t) atBy 1234 128 refl t q
 
-pub first-at : (t : List ℕ) → t ≡ tables → (m : ℕ) → m < 256 → getD t (1362 + m) 0 ≡ firstBy m
+pub first-at : (t : List ℕ) → Lent t → (m : ℕ) → m < 256 → getD t (1362 + m) 0 ≡ firstBy m
 unfolding tables
-first-at = part firstBy 1362 256 refl
+first-at t q = part (editionIn t) firstBy 1362 256 refl t q
 
-pub next-at : (t : List ℕ) → t ≡ tables → (r : ℕ) → r < 16 → getD t (1618 + r) 0 ≡ nextBy r
+pub next-at : (t : List ℕ) → Lent t → (r : ℕ) → r < 16 → getD t (1618 + r) 0 ≡ nextBy r
 unfolding tables
-next-at = part nextBy 1618 16 refl
+next-at t q = part (editionIn t) nextBy 1618 16 refl t q
 
 -- the code of a slot for an octet
-pub code-of : (s : Slot) (t : List ℕ) → t ≡ tables → (o : ℕ) → o < 256 → getD t (1634 + codesFrom s + o) 0 ≡ codeOf s o
+pub code-of : (s : Slot) (t : List ℕ) → Lent t → (o : ℕ) → o < 256 → getD t (1634 + codesFrom s + o) 0 ≡ codeOf (editionIn t) s o
 unfolding tables
-code-of Data = part (codeOf Data) 1634 256 refl
-code-of Control = part (codeOf Control) 1890 256 refl
-code-of Calm = part (codeOf Calm) 2146 256 refl
-code-of Set = part (codeOf Set) 2402 256 refl
-code-of Start = part (codeOf Start) 2658 256 refl
-code-of Terminate = part (codeOf Terminate) 2914 256 refl
+code-of Data t q = part (editionIn t) (codeOf (editionIn t) Data) 1634 256 refl t q
+code-of Control t q = part (editionIn t) (codeOf (editionIn t) Control) 1890 256 refl t q
+code-of Calm t q = part (editionIn t) (codeOf (editionIn t) Calm) 2146 256 refl t q
+code-of Set t q = part (editionIn t) (codeOf (editionIn t) Set) 2402 256 refl t q
+code-of Start t q = part (editionIn t) (codeOf (editionIn t) Start) 2658 256 refl t q
+code-of Terminate t q = part (editionIn t) (codeOf (editionIn t) Terminate) 2914 256 refl t q
+
+-- tables are lent with their edition
+pub lent : (ed : Edition) (t : List ℕ) → t ≡ tables ed → editionIn t ≡ ed
+unfolding editionIn tables
+lent Old t e = ap editionIn e
+lent New t e = ap editionIn e
+
+pub lends : (ed : Edition) (t : List ℕ) → t ≡ tables ed → Lent t
+lends ed t e = e ∙ ap tables (sym (lent ed t e))
+
+-- they are the newer one's where code 06 has an octet
+pub newer : (t : List ℕ) → getD t 262 0 < 256 → editionIn t ≡ New
+unfolding editionIn
+newer t l = rw (lt-ltb (getD t 262 0) 256 l)

@@ -1,3 +1,4 @@
+pub mod Low
 pub mod Entries
 pub mod Types
 pub mod Unique

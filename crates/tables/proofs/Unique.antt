@@ -2,15 +2,21 @@
 use mathlib.Core.Path.{_≡_, _∙_, sym}
 use mathlib.Core.List.{List}
 use Prim.Native.Nat.{ℕ}
+use Rattle.block.specs.declared.Edition.{Edition}
 use Rattle.block.specs.declared.Kind.{Kind}
+use Rattle.block.specs.Block.{editionOf, twoWords, kindFor}
 use Rattle.block.specs.Rows.{row}
 use Rattle.tables.specs.Tables.{types, tables}
 
 pub type-table-unique : (r r′ : List ℕ) → r ≡ types → r′ ≡ types → r ≡ r′
 type-table-unique r r′ p q = p ∙ sym q
 
-pub block-tables-unique : (r r′ : List ℕ) → r ≡ tables → r′ ≡ tables → r ≡ r′
-block-tables-unique r r′ p q = p ∙ sym q
+pub block-tables-unique : (ed : Edition) (r r′ : List ℕ) → r ≡ tables ed → r′ ≡ tables ed → r ≡ r′
+block-tables-unique ed r r′ p q = p ∙ sym q
 
-pub kind-at-unique : (r : ℕ) (k k′ : Kind) → k ≡ row r .kind → k′ ≡ row r .kind → k ≡ k′
-kind-at-unique r k k′ p q = p ∙ sym q
+pub kind-of-unique : (r c0 d0 c1 d1 : ℕ) (k k′ : Kind)
+    → k ≡ kindFor (row r) (twoWords c0 d0 c1 d1) → k′ ≡ kindFor (row r) (twoWords c0 d0 c1 d1) → k ≡ k′
+kind-of-unique r c0 d0 c1 d1 k k′ p q = p ∙ sym q
+
+pub edition-of-unique : (n : ℕ) (r r′ : Edition) → r ≡ editionOf n → r′ ≡ editionOf n → r ≡ r′
+edition-of-unique n r r′ p q = p ∙ sym q

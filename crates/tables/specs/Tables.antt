@@ -1,12 +1,15 @@
 -- A reviewer can skip this file: the constant tables of the code, by their rules. That they are right is shown by what decoding and
 -- encoding answer.
 use mathlib.Core.List.{List, [], _∷_, _++_, map}
+use mathlib.Core.Path.{_≡_}
 use mathlib.Core.Bool.{cond}
 use Prim.Native.Nat.{ℕ, zero, suc, _+_, _-_, _*_, _/_, _%_, _^_}
-use lib.Dec.{eqb}
+use lib.Dec.{eqb, ltb}
 use lib.ListN.{getD, take, drop}
+use Rattle.block.specs.declared.Edition.{Edition}
+use Rattle.block.specs.declared.Edition.the-variants.{Old, New}
 use Rattle.block.specs.declared.Kind.{Kind}
-use Rattle.block.specs.declared.Kind.the-variants.{D, C, S, T, E}
+use Rattle.block.specs.declared.Kind.the-variants.{D, C, S, T, LI, E}
 use Rattle.block.specs.Block.{Slot, Control, Calm, Data, Set, Start, Terminate, Field, d, Format, codeOf, octetOf, flagsAt}
 use Rattle.block.specs.Rows.{width, fieldAt, placeAt, bitsOf, formats, row, rowOf}
 
@@ -26,6 +29,7 @@ kindNumber C = 1
 kindNumber S = 2
 kindNumber T = 3
 kindNumber E = 4
+kindNumber LI = 5
 
 -- ---- for a character p of a row: table entry 8 * row + p
 
@@ -96,14 +100,14 @@ nextBy r = suc r + seek (flagsOf (row r)) (drop (suc r) formats)
 
 -- ---- the tables, one after the other
 
-unfoldable pub tables : List ℕ
-tables =
-    map (octetOf Data) (upto 0 256)
-    ++ map (octetOf Control) (upto 0 128)
-    ++ map (octetOf Calm) (upto 0 128)
-    ++ map (octetOf Set) (upto 0 16)
-    ++ map (octetOf Start) (upto 0 1)
-    ++ map (octetOf Terminate) (upto 0 1)
+unfoldable pub tables : Edition → List ℕ
+tables ed =
+    map (octetOf ed Data) (upto 0 256)
+    ++ map (octetOf ed Control) (upto 0 128)
+    ++ map (octetOf ed Calm) (upto 0 128)
+    ++ map (octetOf ed Set) (upto 0 16)
+    ++ map (octetOf ed Start) (upto 0 1)
+    ++ map (octetOf ed Terminate) (upto 0 1)
     ++ map shiftBy (upto 0 128)
     ++ map maskBy (upto 0 128)
     ++ map baseBy (upto 0 128)
@@ -116,9 +120,16 @@ tables =
     ++ map atBy (upto 0 128)
     ++ map firstBy (upto 0 256)
     ++ map nextBy (upto 0 16)
-    ++ map (codeOf Data) (upto 0 256)
-    ++ map (codeOf Control) (upto 0 256)
-    ++ map (codeOf Calm) (upto 0 256)
-    ++ map (codeOf Set) (upto 0 256)
-    ++ map (codeOf Start) (upto 0 256)
-    ++ map (codeOf Terminate) (upto 0 256)
+    ++ map (codeOf ed Data) (upto 0 256)
+    ++ map (codeOf ed Control) (upto 0 256)
+    ++ map (codeOf ed Calm) (upto 0 256)
+    ++ map (codeOf ed Set) (upto 0 256)
+    ++ map (codeOf ed Start) (upto 0 256)
+    ++ map (codeOf ed Terminate) (upto 0 256)
+
+-- The edition of lent tables, by the octet of code 06; and that they are the tables of an edition.
+unfoldable pub editionIn : List ℕ → Edition
+editionIn t = cond (ltb (getD t 262 0) 256) New Old
+
+abbrev pub Lent : List ℕ → Type 0
+Lent t = t ≡ tables (editionIn t)

@@ -3,8 +3,10 @@
 ghost use mathlib.Core.Path.{_≡_};
 ghost use mathlib.Core.List.{List};
 ghost use Prim.Native.Nat.{_<_};
+ghost use Rattle.block.specs.Block.{editionOf, twoWords, lowPower, kindFor};
 ghost use Rattle.block.specs.Rows.{row};
-ghost use Rattle.tables.specs.Tables.{types, tables};
+ghost use Rattle.tables.specs.Tables.{types, tables, Lent};
+use block::Edition;
 use block::Kind;
 
 mod data;
@@ -39,6 +41,16 @@ pub const NEXT: usize = 1618;
 
 pub const CODES: usize = 1634;
 
+// The entry of octet 06, below 256 in the tables of the newer edition alone.
+pub const LOW_POWER: usize = 262;
+
+// The edition of a number: 0 is the old one.
+pub fn edition_of(n: u64) -> Edition
+    ensures { λ r. ⌜ r ≡ editionOf n ⌝ }
+{
+    if n == 0 { Edition::Old } else { Edition::New }
+}
+
 // The row of each type byte, 16 for a byte that is no type.
 pub fn type_table() -> [u8; 256]
     ensures { λ r. ⌜ r ≡ types ⌝ }
@@ -46,16 +58,27 @@ pub fn type_table() -> [u8; 256]
     data::TYPES
 }
 
-// The other tables, one after the other.
-pub fn block_tables() -> [u16; 3170]
-    ensures { λ r. ⌜ r ≡ tables ⌝ }
+// The other tables, one after the other. Those of the newer edition have four entries more: octet and code 06, as a control character and as
+// one other than 1e.
+pub fn block_tables(edition: Edition) -> [u16; 3170]
+    ensures { λ r. ⌜ r ≡ tables edition ⌝ }
 {
-    data::TABLES
+    let mut t = data::TABLES;
+    match edition {
+        Edition::Old => {}
+        Edition::New => {
+            t[262] = 6;
+            t[390] = 6;
+            t[1896] = 6;
+            t[2152] = 6;
+        }
+    }
+    t
 }
 
 // The kind of a row.
-pub fn kind_at(t: &[u16; 3170], r: usize) -> Kind
-    requires { ⌜ (r < 16) × (now t ≡ tables) ⌝ }
+fn kind_at(t: &[u16; 3170], r: usize) -> Kind
+    requires { ⌜ (r < 16) × Lent (now t) ⌝ }
     ensures { λ z. ⌜ z ≡ row r .kind ⌝ }
 {
     let n = t[KIND + r];
@@ -70,4 +93,32 @@ pub fn kind_at(t: &[u16; 3170], r: usize) -> Kind
     } else {
         Kind::E
     }
+}
+
+// Whether a vector of row r, as two words, is low power idle; row 1 is type 1e.
+fn low_power(r: usize, c0: u8, d0: u32, c1: u8, d1: u32) -> bool
+    requires { ⌜ r < 16 ⌝ }
+    ensures { λ z. ⌜ z ≡ lowPower (row r) (twoWords c0 d0 c1 d1) ⌝ }
+{
+    if d0 != 0x06060606 {
+        return false;
+    }
+    if d1 != 0x06060606 {
+        return false;
+    }
+    if r != 1 {
+        return false;
+    }
+    c0 as u64 + 256 * (c1 as u64) == 0x0f0f
+}
+
+// The kind of a valid vector of row r.
+pub fn kind_of(t: &[u16; 3170], r: usize, c0: u8, d0: u32, c1: u8, d1: u32) -> Kind
+    requires { ⌜ (r < 16) × Lent (now t) ⌝ }
+    ensures { λ z. ⌜ z ≡ kindFor (row r) (twoWords c0 d0 c1 d1) ⌝ }
+{
+    if low_power(r, c0, d0, c1, d1) {
+        return Kind::LI;
+    }
+    kind_at(t, r)
 }

@@ -6,6 +6,7 @@ use Rattle.block.specs.Block.{good}
 use Rattle.block.specs.Rows.{row}
 use Rattle.block.proofs.Formats.{flags-lt}
 use Rattle.tables.proofs.Entries.{low-at, high-at}
+use Rattle.tables.specs.Tables.{editionIn}
 use Rattle.decoding.proofs.Rows.{row-valid, row-set, row-control}
 use Rattle.decoding.proofs.decode_row.Statement.{statement}
 use Rattle.decoding.proofs.decode_row.Tie as tie
@@ -43,18 +44,18 @@ element-copy-out-c1 c = search needs
 cast-c1 : tie.Need-cast-c1
 cast-c1 c = search needs
 
-kind-at-requires : tie.Need-kind-at-requires
-kind-at-requires c κs = search needs
+kind-of-requires : tie.Need-kind-of-requires
+kind-of-requires c κs = search needs
 
 good-class-requires : tie.Need-good-class-requires
 good-class-requires c κs = search needs
 
 returns : tie.Need-returns
 returns c =
-    row-valid (c .before .before .before .before .before .before .before .before .before .args .r) (c .before .before .before .before .before .before .before .before .before .args .x) _ _ _ _ _ _ _ (c .before .before .before .before .before .before .before .before .four .ensures .0) (c .before .before .before .before .before .before .before .four2 .ensures .0) (c .before .before .before .before .before .before .before .before .four .ensures .1) (c .before .before .before .before .before .before .before .four2 .ensures .1) (c .before .before .before .before .if1 .taken)
+    row-valid (editionIn (c .before .before .before .before .before .before .before .before .before .args .t .now)) (c .before .before .before .before .before .before .before .before .before .args .r) (c .before .before .before .before .before .before .before .before .before .args .x) _ _ _ _ _ _ _ (c .before .before .before .before .before .before .before .before .four .ensures .0) (c .before .before .before .before .before .before .before .four2 .ensures .0) (c .before .before .before .before .before .before .before .before .four .ensures .1) (c .before .before .before .before .before .before .before .four2 .ensures .1) (c .before .before .before .before .if1 .taken)
     (omega (arith, low-at (c .before .before .before .before .before .before .before .before .before .args .t .now) (c .before .before .before .before .before .before .before .before .before .pre .1) (c .before .before .before .before .before .before .before .before .before .args .r) (c .before .before .before .before .before .before .before .before .before .pre .0), flags-lt (row (c .before .before .before .before .before .before .before .before .before .args .r) .fields) 0))
     (omega (arith, high-at (c .before .before .before .before .before .before .before .before .before .args .t .now) (c .before .before .before .before .before .before .before .before .before .pre .1) (c .before .before .before .before .before .before .before .before .before .args .r) (c .before .before .before .before .before .before .before .before .before .pre .0), flags-lt (row (c .before .before .before .before .before .before .before .before .before .args .r) .fields) 4))
-    (c .good-class .ensures ∙ ap good (c .before .kind-at .ensures))
+    (c .good-class .ensures ∙ ap good (c .before .kind-of .ensures))
 
 add-if2 : tie.Need-add-if2
 add-if2 c = omega (arith, c .before .before .before .before .before .before .four .ensures .4, c .before .before .before .before .before .four2 .ensures .4)
@@ -64,7 +65,7 @@ bad-requires c κs = search needs
 
 returns-2 : tie.Need-returns-2
 returns-2 c =
-    let w = row-set (c .before .before .before .before .before .before .before .before .before .args .r) (c .before .before .before .before .before .before .before .before .before .args .x) _ _ _ _ (c .before .before .before .before .before .before .before .before .before .pre .0) (c .before .before .before .before .before .before .before .before .four .ensures .1) (c .before .before .before .before .before .before .before .four2 .ensures .1) (c .before .before .before .before .before .before .before .before .four .ensures .2) (c .before .before .before .before .before .before .before .four2 .ensures .2) (c .before .before .before .before .if1 .left) (omega (arith, c .before .if2 .taken)) in
+    let w = row-set (editionIn (c .before .before .before .before .before .before .before .before .before .args .t .now)) (c .before .before .before .before .before .before .before .before .before .args .r) (c .before .before .before .before .before .before .before .before .before .args .x) _ _ _ _ (c .before .before .before .before .before .before .before .before .before .pre .0) (c .before .before .before .before .before .before .before .before .four .ensures .1) (c .before .before .before .before .before .before .before .four2 .ensures .1) (c .before .before .before .before .before .before .before .before .four .ensures .2) (c .before .before .before .before .before .before .before .four2 .ensures .2) (c .before .before .before .before .if1 .left) (omega (arith, c .before .if2 .taken)) in
     (c .bad .ensures .0 ∙ w .0, c .bad .ensures .1 ∙ w .1)
 
 bad-requires-2 : tie.Need-bad-requires-2
@@ -72,7 +73,7 @@ bad-requires-2 c κs = search needs
 
 returns-3 : tie.Need-returns-3
 returns-3 c =
-    let w = row-control (c .before .before .before .before .before .before .before .before .before .args .r) (c .before .before .before .before .before .before .before .before .before .args .x) _ _ _ _ (c .before .before .before .before .before .before .before .before .before .pre .0) (c .before .before .before .before .before .before .before .before .four .ensures .1) (c .before .before .before .before .before .before .before .four2 .ensures .1) (c .before .before .before .before .before .before .before .before .four .ensures .2) (c .before .before .before .before .before .before .before .four2 .ensures .2) (c .before .before .before .before .if1 .left) (c .before .if2 .left) in
+    let w = row-control (editionIn (c .before .before .before .before .before .before .before .before .before .args .t .now)) (c .before .before .before .before .before .before .before .before .before .args .r) (c .before .before .before .before .before .before .before .before .before .args .x) _ _ _ _ (c .before .before .before .before .before .before .before .before .before .pre .0) (c .before .before .before .before .before .before .before .before .four .ensures .1) (c .before .before .before .before .before .before .before .four2 .ensures .1) (c .before .before .before .before .before .before .before .before .four .ensures .2) (c .before .before .before .before .before .before .before .four2 .ensures .2) (c .before .before .before .before .if1 .left) (c .before .if2 .left) in
     (c .bad2 .ensures .0 ∙ w .0, c .bad2 .ensures .1 ∙ w .1)
 
 pub decode-row-spec : {M : Type 1} → statement M
@@ -90,7 +91,7 @@ decode-row-spec =
     mul-c1
     element-copy-out-c1
     cast-c1
-    kind-at-requires
+    kind-of-requires
     good-class-requires
     returns
     add-if2

@@ -20,6 +20,9 @@ enum-told-4 c = search needs
 enum-told-5 : tie.Need-enum-told-5
 enum-told-5 c = search needs
 
+enum-told-6 : tie.Need-enum-told-6
+enum-told-6 c = search needs
+
 returns : tie.Need-returns
 returns c = search needs
 
@@ -35,6 +38,9 @@ returns-4 c = search needs
 returns-5 : tie.Need-returns-5
 returns-5 c = ap good (sym (c .enum-told5 .given .1))
 
+returns-6 : tie.Need-returns-6
+returns-6 c = search needs
+
 pub good-class-spec : {M : Type 1} → statement M
 good-class-spec =
     tie.close
@@ -44,8 +50,10 @@ good-class-spec =
     enum-told-3
     enum-told-4
     enum-told-5
+    enum-told-6
     returns
     returns-2
     returns-3
     returns-4
-    returns-5)
+    returns-5
+    returns-6)

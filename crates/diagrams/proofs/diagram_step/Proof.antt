@@ -1,6 +1,6 @@
 use mathlib.Core.Path.{sym, _∙_}
 use borrow.Author.Needs.{needs}
-use Rattle.diagrams.proofs.Laws.{data-on, data-off, terminate-on, terminate-off, terminate-early, control-data, control-else, start-on, start-off, error-any}
+use Rattle.diagrams.proofs.Laws.{data-on, data-off, terminate-on, terminate-off, terminate-early, control-data, control-else, start-here, start-else, low-here, low-else, error-any}
 use Rattle.diagrams.proofs.diagram_step.Statement.{statement}
 use Rattle.diagrams.proofs.diagram_step.Tie as tie
 
@@ -12,6 +12,9 @@ enum-told c = search needs
 
 enum-told-2 : tie.Need-enum-told-2
 enum-told-2 c = search needs
+
+may-begin-requires : tie.Need-may-begin-requires
+may-begin-requires c κs = search needs
 
 enum-told-3 : tie.Need-enum-told-3
 enum-told-3 c = search needs
@@ -25,6 +28,12 @@ enum-told-4 c = search needs
 enum-told-5 : tie.Need-enum-told-5
 enum-told-5 c = search needs
 
+enum-told-6 : tie.Need-enum-told-6
+enum-told-6 c = search needs
+
+may-rest-requires : tie.Need-may-rest-requires
+may-rest-requires c κs = search needs
+
 returns : tie.Need-returns
 returns c = rw (c .before .enum-told .given .1) (sym (data-on (c .before .before .before .before .args .s) (c .before .before .before .before .args .ends) (sym (c .before .before .before .goes-on .ensures) ∙ c .if1 .taken)))
 
@@ -32,10 +41,10 @@ returns-2 : tie.Need-returns-2
 returns-2 c = rw (c .before .enum-told .given .1) (sym (data-off (c .before .before .before .before .args .s) (c .before .before .before .before .args .ends) (sym (c .before .before .before .goes-on .ensures) ∙ c .if1 .left)))
 
 returns-3 : tie.Need-returns-3
-returns-3 c = rw (c .before .enum-told2 .given .1) (sym (start-on (c .before .before .before .before .args .s) (c .before .before .before .before .args .ends) (sym (c .before .before .before .goes-on .ensures) ∙ c .if2 .taken)))
+returns-3 c = rw (c .before .before .enum-told2 .given .1) (sym (start-here (c .before .before .before .before .before .args .s) (c .before .before .before .before .before .args .ends) (sym (c .before .may-begin .ensures) ∙ c .if2 .taken)))
 
 returns-4 : tie.Need-returns-4
-returns-4 c = rw (c .before .enum-told2 .given .1) (sym (start-off (c .before .before .before .before .args .s) (c .before .before .before .before .args .ends) (sym (c .before .before .before .goes-on .ensures) ∙ c .if2 .left)))
+returns-4 c = rw (c .before .before .enum-told2 .given .1) (sym (start-else (c .before .before .before .before .before .args .s) (c .before .before .before .before .before .args .ends) (sym (c .before .may-begin .ensures) ∙ c .if2 .left)))
 
 returns-5 : tie.Need-returns-5
 returns-5 c = rw (c .before .before .enum-told3 .given .1) (sym (control-data (c .before .before .before .before .before .args .s) (c .before .before .before .before .before .args .ends) (sym (c .before .is-data .ensures) ∙ c .if3 .taken)))
@@ -55,6 +64,12 @@ returns-9 c = rw (c .before .enum-told4 .given .1, c .if4 .left) (sym (terminate
 returns-10 : tie.Need-returns-10
 returns-10 c = rw (c .enum-told5 .given .1) (sym (error-any (c .before .before .before .args .s) (c .before .before .before .args .ends)))
 
+returns-11 : tie.Need-returns-11
+returns-11 c = rw (c .before .before .enum-told6 .given .1) (sym (low-here (c .before .before .before .before .before .args .s) (c .before .before .before .before .before .args .ends) (sym (c .before .may-rest .ensures) ∙ c .if6 .taken)))
+
+returns-12 : tie.Need-returns-12
+returns-12 c = rw (c .before .before .enum-told6 .given .1) (sym (low-else (c .before .before .before .before .before .args .s) (c .before .before .before .before .before .args .ends) (sym (c .before .may-rest .ensures) ∙ c .if6 .left)))
+
 pub diagram-step-spec : {M : Type 1} → statement M
 diagram-step-spec =
     tie.close
@@ -62,10 +77,13 @@ diagram-step-spec =
     goes-on-requires
     enum-told
     enum-told-2
+    may-begin-requires
     enum-told-3
     is-data-requires
     enum-told-4
     enum-told-5
+    enum-told-6
+    may-rest-requires
     returns
     returns-2
     returns-3
@@ -75,4 +93,6 @@ diagram-step-spec =
     returns-7
     returns-8
     returns-9
-    returns-10)
+    returns-10
+    returns-11
+    returns-12)

@@ -18,6 +18,9 @@ enum-told-4 c = search needs
 enum-told-5 : tie.Need-enum-told-5
 enum-told-5 c = search needs
 
+enum-told-6 : tie.Need-enum-told-6
+enum-told-6 c = search needs
+
 returns : tie.Need-returns
 unfolding follows
 returns c = search needs
@@ -38,6 +41,10 @@ returns-5 : tie.Need-returns-5
 unfolding follows
 returns-5 c = search needs
 
+returns-6 : tie.Need-returns-6
+unfolding follows
+returns-6 c = search needs
+
 pub may-follow-spec : {M : Type 1} → statement M
 may-follow-spec =
     tie.close
@@ -47,8 +54,10 @@ may-follow-spec =
     enum-told-3
     enum-told-4
     enum-told-5
+    enum-told-6
     returns
     returns-2
     returns-3
     returns-4
-    returns-5)
+    returns-5
+    returns-6)

@@ -21,6 +21,9 @@ enum-told-4 c = search needs
 enum-told-5 : tie.Need-enum-told-5
 enum-told-5 c = search needs
 
+enum-told-6 : tie.Need-enum-told-6
+enum-told-6 c = search needs
+
 returns : tie.Need-returns
 returns c = sym (ap (λ (k : Kind). encodedBy k (c .before .before .args .c)) (c .enum-told .given .1))
 
@@ -36,6 +39,9 @@ returns-4 c = sym (ap (λ (k : Kind). encodedBy k (c .before .before .args .c)) 
 returns-5 : tie.Need-returns-5
 returns-5 c = search needs
 
+returns-6 : tie.Need-returns-6
+returns-6 c = sym (ap (λ (k : Kind). encodedBy k (c .before .before .args .c)) (c .enum-told6 .given .1))
+
 pub answer-spec : {M : Type 1} → statement M
 answer-spec =
     tie.close
@@ -45,8 +51,10 @@ answer-spec =
     enum-told-3
     enum-told-4
     enum-told-5
+    enum-told-6
     returns
     returns-2
     returns-3
     returns-4
-    returns-5)
+    returns-5
+    returns-6)

@@ -3,13 +3,14 @@ use Prim.Native.Nat.{_+_, _-_, _*_}
 use native.Mathlib.Omega.{arith}
 use borrow.Author.Needs.{needs}
 use Rattle.tables.proofs.Entries.{first-at, next-at}
+use Rattle.tables.specs.Tables.{editionIn}
 use Rattle.encoding.specs.Parts.{spread}
 use Rattle.encoding.proofs.Choosing.{Trying, first-try, next-try, first-le, next-gt, next-le, tried, none-tried, not-tried}
 use Rattle.encoding.proofs.encode_rows.Statement.{statement}
 use Rattle.encoding.proofs.encode_rows.Tie as tie
 
 abbrev Inv-loop : tie.InvT-loop
-Inv-loop t c0 c1 lanes m r₀ r = Trying (spread c0 c1 lanes) r
+Inv-loop t c0 c1 lanes m r₀ r = Trying (editionIn t) (spread c0 c1 lanes) r
 
 abbrev μ-loop : tie.MeasureT-loop
 μ-loop t c0 c1 lanes m r₀ r = 16 - r
@@ -33,16 +34,22 @@ cast-r : tie.Need-cast-r Inv-loop μ-loop
 cast-r c = omega (arith, first-at (c .before .args .t .now) (c .before .pre .3) (c .before .args .c0 + 16 * c .before .args .c1) (omega arith), first-le (c .before .args .c0 + 16 * c .before .args .c1))
 
 loop-holds : tie.Need-loop-holds Inv-loop μ-loop
-loop-holds c = first-try (spread (c .before .args .c0) (c .before .args .c1) (c .before .args .lanes)) (omega arith) (omega arith) _ (first-at (c .before .args .t .now) (c .before .pre .3) (c .before .args .c0 + 16 * c .before .args .c1) (omega arith))
+loop-holds c = first-try (editionIn (c .before .args .t .now)) (spread (c .before .args .c0) (c .before .args .c1) (c .before .args .lanes)) (omega arith) (omega arith) _ (first-at (c .before .args .t .now) (c .before .pre .3) (c .before .args .c0 + 16 * c .before .args .c1) (omega arith))
 
 pack-requires : tie.Need-pack-requires Inv-loop μ-loop
 pack-requires c κs = (c .loop-test .taken, c .before .loop .inv .flags (c .loop-test .taken), c .before .before .before .pre .3)
 
-kind-at-requires : tie.Need-kind-at-requires Inv-loop μ-loop
-kind-at-requires c κs = search needs
+cast-kind-of : tie.Need-cast-kind-of Inv-loop μ-loop
+cast-kind-of c = search needs
+
+cast-kind-of-2 : tie.Need-cast-kind-of-2 Inv-loop μ-loop
+cast-kind-of-2 c = search needs
+
+kind-of-requires : tie.Need-kind-of-requires Inv-loop μ-loop
+kind-of-requires c κs = search needs
 
 returns : tie.Need-returns Inv-loop μ-loop
-returns c = tried (spread (c .before .before .before .before .before .before .args .c0) (c .before .before .before .before .before .before .args .c1) (c .before .before .before .before .before .before .args .lanes)) (c .before .before .before .before .loop .r) _ _ (c .before .before .before .loop-test .taken) (c .before .before .before .before .loop .inv) (c .before .before .before .before .before .before .pre .2) (c .kind-at .ensures) (c .before .before .pack .ensures) (c .before .if1 .taken)
+returns c = tried (editionIn (c .before .before .before .before .before .before .args .t .now)) (spread (c .before .before .before .before .before .before .args .c0) (c .before .before .before .before .before .before .args .c1) (c .before .before .before .before .before .before .args .lanes)) (c .before .before .before .before .loop .r) _ _ (c .before .before .before .loop-test .taken) (c .before .before .before .before .loop .inv) (c .before .before .before .before .before .before .pre .2) (c .kind-of .ensures) (c .before .before .pack .ensures) (c .before .if1 .taken)
 
 add-r-2 : tie.Need-add-r-2 Inv-loop μ-loop
 add-r-2 c = search needs
@@ -60,10 +67,10 @@ loop-less : tie.Need-loop-less Inv-loop μ-loop
 loop-less c = omega (arith, next-at (c .before .before .before .before .before .before .args .t .now) (c .before .before .before .before .before .before .pre .3) (c .before .before .before .before .loop .r) (c .before .before .before .loop-test .taken), next-gt (c .before .before .before .before .loop .r), c .before .before .before .loop-test .taken)
 
 loop-again : tie.Need-loop-again Inv-loop μ-loop
-loop-again c = next-try (spread (c .before .before .before .before .before .before .args .c0) (c .before .before .before .before .before .before .args .c1) (c .before .before .before .before .before .before .args .lanes)) (omega arith) (omega arith) (c .before .before .before .before .loop .r) _ (c .before .before .before .loop-test .taken) (c .before .before .before .before .loop .inv) (not-tried (spread (c .before .before .before .before .before .before .args .c0) (c .before .before .before .before .before .before .args .c1) (c .before .before .before .before .before .before .args .lanes)) (c .before .before .before .before .loop .r) _ (c .before .before .pack .ensures) (c .before .if1 .left)) (next-at (c .before .before .before .before .before .before .args .t .now) (c .before .before .before .before .before .before .pre .3) (c .before .before .before .before .loop .r) (c .before .before .before .loop-test .taken))
+loop-again c = next-try (editionIn (c .before .before .before .before .before .before .args .t .now)) (spread (c .before .before .before .before .before .before .args .c0) (c .before .before .before .before .before .before .args .c1) (c .before .before .before .before .before .before .args .lanes)) (omega arith) (omega arith) (c .before .before .before .before .loop .r) _ (c .before .before .before .loop-test .taken) (c .before .before .before .before .loop .inv) (not-tried (editionIn (c .before .before .before .before .before .before .args .t .now)) (spread (c .before .before .before .before .before .before .args .c0) (c .before .before .before .before .before .before .args .c1) (c .before .before .before .before .before .before .args .lanes)) (c .before .before .before .before .loop .r) _ (c .before .before .pack .ensures) (c .before .if1 .left)) (next-at (c .before .before .before .before .before .before .args .t .now) (c .before .before .before .before .before .before .pre .3) (c .before .before .before .before .loop .r) (c .before .before .before .loop-test .taken))
 
 returns-2 : tie.Need-returns-2 Inv-loop μ-loop
-returns-2 c = none-tried (spread (c .before .before .before .args .c0) (c .before .before .before .args .c1) (c .before .before .before .args .lanes)) (c .before .loop .r) (c .loop-test .left) (c .before .loop .inv)
+returns-2 c = none-tried (editionIn (c .before .before .before .args .t .now)) (spread (c .before .before .before .args .c0) (c .before .before .before .args .c1) (c .before .before .before .args .lanes)) (c .before .loop .r) (c .loop-test .left) (c .before .loop .inv)
 
 pub encode-rows-spec : {M : Type 1} → statement M
 encode-rows-spec =
@@ -79,7 +86,9 @@ encode-rows-spec =
     cast-r
     loop-holds
     pack-requires
-    kind-at-requires
+    cast-kind-of
+    cast-kind-of-2
+    kind-of-requires
     returns
     add-r-2
     mul-r-2

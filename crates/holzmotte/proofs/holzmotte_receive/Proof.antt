@@ -25,14 +25,14 @@ returns c =
     let a = c .before .before .before .before .before .before .before .before .before .before .before .args in
     let l = sym (c .before .before .before .before .before .before .short-slice .ensures) ∙ c .before .before .before .before .before .if1 .taken in
     let t =
-    shortly (now (a .line)) (now (a .vectors)) (now (a .summary)) (now (a .counters)) (c .receive-short .result) l
+    shortly (a .edition) (now (a .line)) (now (a .vectors)) (now (a .summary)) (now (a .counters)) (c .receive-short .result) l
     (c .receive-short .ensures (length (now (a .vectors))) (length (now (a .summary))) (length (now (a .counters))) l) in
     (t .0, t .1, c .before .before .before .clear .ensures ∙ t .2, t .3)
 
 load-counters-requires : tie.Need-load-counters-requires
 load-counters-requires c κs =
     let a = c .before .before .before .before .before .before .before .before .args in
-    long-counters (now (a .line)) (now (a .vectors)) (now (a .summary)) (now (a .counters)) (sym (c .before .before .before .short-slice .ensures) ∙ c .before .before .if1 .left)
+    long-counters (a .edition) (now (a .line)) (now (a .vectors)) (now (a .summary)) (now (a .counters)) (sym (c .before .before .before .short-slice .ensures) ∙ c .before .before .if1 .left)
 
 receive-by-value-requires : tie.Need-receive-by-value-requires
 receive-by-value-requires c κs = search needs
@@ -43,12 +43,12 @@ enum-known-answer c = search needs
 put-summary-requires : tie.Need-put-summary-requires
 put-summary-requires c κs =
     let a = c .before .before .before .before .before .before .before .before .before .before .before .before .before .before .before .before .before .args in
-    long-summary (now (a .line)) (now (a .vectors)) (now (a .summary)) (now (a .counters)) (sym (c .before .before .before .before .before .before .before .before .before .before .before .before .short-slice .ensures) ∙ c .before .before .before .before .before .before .before .before .before .before .before .if1 .left)
+    long-summary (a .edition) (now (a .line)) (now (a .vectors)) (now (a .summary)) (now (a .counters)) (sym (c .before .before .before .before .before .before .before .before .before .before .before .before .short-slice .ensures) ∙ c .before .before .before .before .before .before .before .before .before .before .before .if1 .left)
 
 store-counters-requires : tie.Need-store-counters-requires
 store-counters-requires c κs =
     let a = c .before .before .before .before .before .before .before .before .before .before .before .before .before .before .before .before .before .before .before .before .before .args in
-    long-counters (now (a .line)) (now (a .vectors)) (now (a .summary)) (now (a .counters)) (sym (c .before .before .before .before .before .before .before .before .before .before .before .before .before .before .before .before .short-slice .ensures) ∙ c .before .before .before .before .before .before .before .before .before .before .before .before .before .before .before .if1 .left)
+    long-counters (a .edition) (now (a .line)) (now (a .vectors)) (now (a .summary)) (now (a .counters)) (sym (c .before .before .before .before .before .before .before .before .before .before .before .before .before .before .before .before .short-slice .ensures) ∙ c .before .before .before .before .before .before .before .before .before .before .before .before .before .before .before .if1 .left)
 
 enum-known-answer-2 : tie.Need-enum-known-answer-2
 enum-known-answer-2 c = search needs
@@ -59,7 +59,7 @@ clear-requires-2 c κs = search needs
 refusal-requires : tie.Need-refusal-requires
 refusal-requires c κs =
     let a = c .before .before .before .before .before .before .before .before .before .before .before .before .before .before .before .before .before .before .before .before .args in
-    small (now (a .line)) (length (now (a .vectors))) _ _ (sym (ap answerOf (c .before .before .before .before .before .answer2 .given .1)) ∙ c .before .before .before .before .before .before .before .before .before .before .receive-by-value .ensures .0 .0)
+    small (a .edition) (now (a .line)) (length (now (a .vectors))) _ _ (sym (ap answerOf (c .before .before .before .before .before .answer2 .given .1)) ∙ c .before .before .before .before .before .before .before .before .before .before .receive-by-value .ensures .0 .0)
 
 same-length-2 : tie.Need-same-length-2
 same-length-2 c = search needs
@@ -73,7 +73,7 @@ same-length-4 c = search needs
 returns-2 : tie.Need-returns-2
 returns-2 c =
     let a = c .before .before .before .before .before .before .before .before .before .before .before .before .before .before .before .before .before .before .before .before .before .before .before .before .args in
-    received-so (now (a .line)) (now (a .vectors)) (now (a .summary)) (now (a .counters)) (sym (c .before .before .before .before .before .before .before .before .before .before .before .before .before .before .before .before .before .before .before .short-slice .ensures) ∙ c .before .before .before .before .before .before .before .before .before .before .before .before .before .before .before .before .before .before .if1 .left) (c .before .before .before .before .before .before .before .before .before .answer .given .0 .0) (c .before .before .before .before .before .before .before .before .before .before .before .before .before .before .before .load-counters .result) (c .before .before .before .before .before .before .before .before .before .before .before .before .before .before .receive-by-value .result .counters) _ _ _
+    received-so (a .edition) (now (a .line)) (now (a .vectors)) (now (a .summary)) (now (a .counters)) (sym (c .before .before .before .before .before .before .before .before .before .before .before .before .before .before .before .before .before .before .before .short-slice .ensures) ∙ c .before .before .before .before .before .before .before .before .before .before .before .before .before .before .before .before .before .before .if1 .left) (c .before .before .before .before .before .before .before .before .before .answer .given .0 .0) (c .before .before .before .before .before .before .before .before .before .before .before .before .before .before .before .load-counters .result) (c .before .before .before .before .before .before .before .before .before .before .before .before .before .before .receive-by-value .result .counters) _ _ _
     (sym (ap answerOf (c .before .before .before .before .before .before .before .before .before .answer .given .1)) ∙ c .before .before .before .before .before .before .before .before .before .before .before .before .before .before .receive-by-value .ensures .0 .0) (c .before .before .before .before .before .before .before .before .before .before .before .before .before .before .receive-by-value .ensures .0 .1) (c .before .before .before .before .before .before .put-summary .ensures)
     (c .before .before .before .before .before .before .before .before .before .before .before .before .before .before .before .load-counters .ensures) (c .before .before .before .before .before .before .before .before .before .before .before .before .before .before .receive-by-value .ensures .1) (c .before .before .store-counters .ensures)
 
@@ -90,7 +90,7 @@ returns-3 : tie.Need-returns-3
 returns-3 c =
     let a = c .before .before .before .before .before .before .before .before .before .before .before .before .before .before .before .before .before .before .before .before .before .args in
     let t =
-    refused-so (now (a .line)) (now (a .vectors)) (now (a .summary)) (now (a .counters)) (sym (c .before .before .before .before .before .before .before .before .before .before .before .before .before .before .before .before .short-slice .ensures) ∙ c .before .before .before .before .before .before .before .before .before .before .before .before .before .before .before .if1 .left) _ _ _
+    refused-so (a .edition) (now (a .line)) (now (a .vectors)) (now (a .summary)) (now (a .counters)) (sym (c .before .before .before .before .before .before .before .before .before .before .before .before .before .before .before .before .short-slice .ensures) ∙ c .before .before .before .before .before .before .before .before .before .before .before .before .before .before .before .if1 .left) _ _ _
     (sym (ap answerOf (c .before .before .before .before .before .before .answer2 .given .1)) ∙ c .before .before .before .before .before .before .before .before .before .before .before .receive-by-value .ensures .0 .0) (c .before .before .before .before .before .before .before .before .before .before .before .receive-by-value .ensures .0 .1) in
     (c .refusal .ensures ∙ t .0, t .1, c .before .before .before .clear2 .ensures ∙ t .2, t .3)
 

@@ -15,7 +15,7 @@ returns : tie.Need-returns
 returns c =
     let a = c .before .before .before .before .before .args in
     let s = now (a .summary) in
-    shortly (now (a .vectors)) (now (a .line)) s (a .start) (c .send-short .result) (c .before .if1 .taken) (c .send-short .ensures (length (now (a .line))) (length s) (c .before .if1 .taken))
+    shortly (a .edition) (now (a .vectors)) (now (a .line)) s (a .start) (c .send-short .result) (c .before .if1 .taken) (c .send-short .ensures (length (now (a .line))) (length s) (c .before .if1 .taken))
 
 send-requires : tie.Need-send-requires
 send-requires c κs = search needs
@@ -41,7 +41,7 @@ put-words-requires-2 c κs = search needs
 refusal-requires : tie.Need-refusal-requires
 refusal-requires c κs =
     let a = c .before .before .before .before .before .before .before .before .before .before .before .before .before .before .before .before .args in
-    small (now (a .vectors)) (a .start) (length (now (a .line))) _ _ (sym (ap answerOf (c .before .before .before .before .before .before .why .given .1)) ∙ c .before .before .before .before .before .before .before .before .before .before .send .ensures .0)
+    small (a .edition) (now (a .vectors)) (a .start) (length (now (a .line))) _ _ (sym (ap answerOf (c .before .before .before .before .before .before .why .given .1)) ∙ c .before .before .before .before .before .before .before .before .before .before .send .ensures .0)
 
 same-length : tie.Need-same-length
 same-length c = search needs
@@ -52,7 +52,7 @@ same-length-2 c = search needs
 returns-2 : tie.Need-returns-2
 returns-2 c =
     let a = c .before .before .before .before .before .before .before .before .before .before .before .before .before .before .before .before .args in
-    answered (now (a .vectors)) (now (a .line)) (now (a .summary)) _ _ (a .start) _ (c .before .before .before .before .before .before .before .before .before .before .before .before .if1 .left) (sym (ap answerOf (c .before .before .before .before .before .before .s .given .1)) ∙ c .before .before .before .before .before .before .before .before .before .before .send .ensures .0) (c .before .before .before .before .before .before .before .before .before .before .send .ensures .1) (c .before .before .put-words .ensures)
+    answered (a .edition) (now (a .vectors)) (now (a .line)) (now (a .summary)) _ _ (a .start) _ (c .before .before .before .before .before .before .before .before .before .before .before .before .if1 .left) (sym (ap answerOf (c .before .before .before .before .before .before .s .given .1)) ∙ c .before .before .before .before .before .before .before .before .before .before .send .ensures .0) (c .before .before .before .before .before .before .before .before .before .before .send .ensures .1) (c .before .before .put-words .ensures)
 
 same-length-3 : tie.Need-same-length-3
 same-length-3 c = search needs
@@ -63,7 +63,7 @@ same-length-4 c = search needs
 returns-3 : tie.Need-returns-3
 returns-3 c =
     let a = c .before .before .before .before .before .before .before .before .before .before .before .before .before .before .before .before .before .args in
-    let t = answered (now (a .vectors)) (now (a .line)) (now (a .summary)) _ _ (a .start) _ (c .before .before .before .before .before .before .before .before .before .before .before .before .before .if1 .left) (sym (ap answerOf (c .before .before .before .before .before .before .before .why .given .1)) ∙ c .before .before .before .before .before .before .before .before .before .before .before .send .ensures .0) (c .before .before .before .before .before .before .before .before .before .before .before .send .ensures .1) (c .before .before .before .put-words2 .ensures) in
+    let t = answered (a .edition) (now (a .vectors)) (now (a .line)) (now (a .summary)) _ _ (a .start) _ (c .before .before .before .before .before .before .before .before .before .before .before .before .before .if1 .left) (sym (ap answerOf (c .before .before .before .before .before .before .before .why .given .1)) ∙ c .before .before .before .before .before .before .before .before .before .before .before .send .ensures .0) (c .before .before .before .before .before .before .before .before .before .before .before .send .ensures .1) (c .before .before .before .put-words2 .ensures) in
     (c .refusal .ensures ∙ t .0, t .1, t .2)
 
 pub holzmotte-send-spec : {M : Type 1} → statement M

@@ -14,16 +14,16 @@ enum-known-s : tie.Need-enum-known-s
 enum-known-s c = search needs
 
 mul-n : tie.Need-mul-n
-mul-n c = omega (arith, vectors-small _ _ (c .before .before .before .before .before .before .before .before .before .before .pre .0) _ _ (sym (ap answerOf (c .before .s .given .1)) ∙ c .before .before .before .before .before .receive .ensures .0) (c .before .before .before .before .before .receive .ensures .1) (c .before .before .before .before .before .receive .kept .1 .0))
+mul-n c = omega (arith, vectors-small _ _ (c .before .before .before .before .before .before .before .before .before .before .pre .0) _ _ (sym (ap answerOf (c .before .s .given .1)) ∙ c .before .before .before .before .before .receive .ensures .0) (c .before .before .before .before .before .receive .ensures .1) (c .before .before .before .before .before .receive .kept .1 .1 .0))
 
 body-requires : tie.Need-body-requires
 body-requires c κs = search needs
 
 hex-lines-requires : tie.Need-hex-lines-requires
-hex-lines-requires c κs = omega (arith, c .before .before .before .before .before .before .before .before .before .before .before .before .before .pre .1, lines-fit _ _ (c .before .before .before .before .before .before .before .before .before .before .before .before .before .pre .0) _ _ (sym (ap answerOf (c .before .before .before .before .s .given .1)) ∙ c .before .before .before .before .before .before .before .before .receive .ensures .0) (c .before .before .before .before .before .before .before .before .receive .ensures .1) (c .before .before .before .before .before .before .before .before .receive .kept .1 .0) _ (c .before .body .ensures))
+hex-lines-requires c κs = omega (arith, c .before .before .before .before .before .before .before .before .before .before .before .before .before .pre .1, lines-fit _ _ (c .before .before .before .before .before .before .before .before .before .before .before .before .before .pre .0) _ _ (sym (ap answerOf (c .before .before .before .before .s .given .1)) ∙ c .before .before .before .before .before .before .before .before .receive .ensures .0) (c .before .before .before .before .before .before .before .before .receive .ensures .1) (c .before .before .before .before .before .before .before .before .receive .kept .1 .1 .0) _ (c .before .body .ensures))
 
 summary-lines-requires : tie.Need-summary-lines-requires
-summary-lines-requires c κs = omega (arith, c .before .before .before .before .before .before .before .before .before .before .before .before .before .before .before .before .before .before .pre .1, c .before .before .before .before .hex-lines .kept .1 .0, lines-end _ _ (c .before .before .before .before .before .before .before .before .before .before .before .before .before .before .before .before .before .before .pre .0) _ _ (sym (ap answerOf (c .before .before .before .before .before .before .before .before .before .s .given .1)) ∙ c .before .before .before .before .before .before .before .before .before .before .before .before .before .receive .ensures .0) (c .before .before .before .before .before .before .before .before .before .before .before .before .before .receive .ensures .1) (c .before .before .before .before .before .before .before .before .before .before .before .before .before .receive .kept .1 .0) _ (c .before .before .before .before .before .before .body .ensures) _ _ _ (c .before .before .before .before .hex-lines .ensures))
+summary-lines-requires c κs = omega (arith, c .before .before .before .before .before .before .before .before .before .before .before .before .before .before .before .before .before .before .pre .1, c .before .before .before .before .hex-lines .kept .1 .0, lines-end _ _ (c .before .before .before .before .before .before .before .before .before .before .before .before .before .before .before .before .before .before .pre .0) _ _ (sym (ap answerOf (c .before .before .before .before .before .before .before .before .before .s .given .1)) ∙ c .before .before .before .before .before .before .before .before .before .before .before .before .before .receive .ensures .0) (c .before .before .before .before .before .before .before .before .before .before .before .before .before .receive .ensures .1) (c .before .before .before .before .before .before .before .before .before .before .before .before .before .receive .kept .1 .1 .0) _ (c .before .before .before .before .before .before .body .ensures) _ _ _ (c .before .before .before .before .hex-lines .ensures))
 
 enum-known-why : tie.Need-enum-known-why
 enum-known-why c = search needs
@@ -38,7 +38,7 @@ same-length-2 : tie.Need-same-length-2
 same-length-2 c = search needs
 
 returns : tie.Need-returns
-returns c = received-written _ _ (c .before .before .before .before .before .before .before .before .before .before .before .before .before .before .before .before .before .before .before .before .before .pre .0) _ _ (sym (ap answerOf (c .before .before .before .before .before .before .before .before .before .before .before .before .s .given .1)) ∙ c .before .before .before .before .before .before .before .before .before .before .before .before .before .before .before .before .receive .ensures .0) (c .before .before .before .before .before .before .before .before .before .before .before .before .before .before .before .before .receive .ensures .1) (c .before .before .before .before .before .before .before .before .before .before .before .before .before .before .before .before .receive .kept .1 .0) _ (c .before .before .before .before .before .before .before .before .before .body .ensures) _ _ _ (c .before .before .before .before .before .before .before .hex-lines .ensures) _ _ (c .before .before .before .before .before .before .before .before .before .before .before .before .before .before .before .before .before .before .before .before .before .pre .1) (c .before .before .summary-lines .ensures)
+returns c = received-written _ _ (c .before .before .before .before .before .before .before .before .before .before .before .before .before .before .before .before .before .before .before .before .before .pre .0) _ _ (sym (ap answerOf (c .before .before .before .before .before .before .before .before .before .before .before .before .s .given .1)) ∙ c .before .before .before .before .before .before .before .before .before .before .before .before .before .before .before .before .receive .ensures .0) (c .before .before .before .before .before .before .before .before .before .before .before .before .before .before .before .before .receive .ensures .1) (c .before .before .before .before .before .before .before .before .before .before .before .before .before .before .before .before .receive .kept .1 .1 .0) _ (c .before .before .before .before .before .before .before .before .before .body .ensures) _ _ _ (c .before .before .before .before .before .before .before .hex-lines .ensures) _ _ (c .before .before .before .before .before .before .before .before .before .before .before .before .before .before .before .before .before .before .before .before .before .pre .1) (c .before .before .summary-lines .ensures)
 
 same-length-3 : tie.Need-same-length-3
 same-length-3 c = search needs

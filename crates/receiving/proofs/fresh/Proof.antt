@@ -15,7 +15,7 @@ unfolding feedIn heldIn
 returns c =
     record {
       feed = rw (bits-none (c .nothing .result) (c .nothing .ensures .0));
-      range = range-fresh;
+      range = range-fresh (c .before .args .edition);
       sound = sound-none (c .nothing .result) (c .nothing .ensures);
       state = refl;
       held = refl;

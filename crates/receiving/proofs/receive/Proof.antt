@@ -1,7 +1,17 @@
 -- `receiving::receive` meets its contract. The tables are lent, and the rest is `receive_with`. Assumes nothing.
+use mathlib.Core.Path.{ap, _∙_}
 use borrow.Author.Needs.{needs}
+use denote.Ref.{now}
+use Rattle.tables.specs.Tables.{tables}
+use Rattle.receiving.proofs.Verdict.{unknown}
 use Rattle.receiving.proofs.receive.Statement.{statement}
 use Rattle.receiving.proofs.receive.Tie as tie
+
+returns : tie.Need-returns
+returns c = unknown (c .before .before .before .args .edition) (now (c .before .before .before .args .line)) (now (c .before .before .before .args .room)) (c .if1 .taken)
+
+edition-of-requires : tie.Need-edition-of-requires
+edition-of-requires c κs = search needs
 
 block-tables-requires : tie.Need-block-tables-requires
 block-tables-requires c κs = search needs
@@ -10,15 +20,15 @@ type-table-requires : tie.Need-type-table-requires
 type-table-requires c κs = search needs
 
 receive-with-requires : tie.Need-receive-with-requires
-receive-with-requires c κs = (c .before .before .before .before .block-tables .ensures, c .before .before .before .type-table .ensures)
+receive-with-requires c κs = (c .before .before .before .before .block-tables .ensures ∙ ap tables (c .before .before .before .before .before .edition-of .ensures), c .before .before .before .type-table .ensures, c .before .before .before .before .before .before .if1 .left)
 
 same-length : tie.Need-same-length
 same-length c = search needs
 
-returns : tie.Need-returns
-returns c = c .before .before .receive-with .ensures
+returns-2 : tie.Need-returns-2
+returns-2 c = c .before .before .receive-with .ensures
 
 pub receive-spec : {M : Type 1} → statement M
 receive-spec =
     tie.close
-    (tie.spec block-tables-requires type-table-requires receive-with-requires same-length returns)
+    (tie.spec returns edition-of-requires block-tables-requires type-table-requires receive-with-requires same-length returns-2)

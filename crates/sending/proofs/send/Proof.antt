@@ -1,5 +1,5 @@
 -- `sending::send` meets its contract: each refusal by the tests that led to it. Assumes nothing.
-use mathlib.Core.Path.{sym}
+use mathlib.Core.Path.{_≡_, sym, ap, _∙_}
 use denote.Ref.{now}
 use borrow.Author.Tests.{le-ltb, lt-ltb, le-leb, lt-leb, eq-eqb, ne-eqb}
 use Rattle.refusals.specs.First.{first}
@@ -12,68 +12,83 @@ use Rattle.sending.proofs.send.Tie as tie
 returns : tie.Need-returns
 unfolding sendAnswer sendRoom sendChecks first
 returns c =
-    let a = lt-ltb _ _ (c .if1 .taken) in
-    (simp a, simp a)
+    let z = lt-ltb _ _ (c .if1 .taken) in
+    (simp z, simp z)
 
 returns-2 : tie.Need-returns-2
 unfolding sendAnswer sendRoom sendChecks first
 returns-2 c =
-    let a = le-ltb _ _ (c .before .if1 .left) in
-    let b = ne-eqb _ _ (c .if2 .taken) in
-    (simp (a, b), simp (a, b))
+    let z = le-ltb _ _ (c .before .if1 .left) in
+    let a = lt-ltb _ _ (c .if2 .taken) in
+    (simp (z, a), simp (z, a))
 
 returns-3 : tie.Need-returns-3
 unfolding sendAnswer sendRoom sendChecks first
 returns-3 c =
-    let a = le-ltb _ _ (c .before .before .if1 .left) in
-    let b = eq-eqb _ _ (c .before .if2 .left) in
-    let d = le-leb _ _ (c .if3 .taken) in
-    (simp (a, b, d), simp (a, b, d))
-
-mul-if4 : tie.Need-mul-if4
-mul-if4 c = search needs
+    let z = le-ltb _ _ (c .before .before .if1 .left) in
+    let a = le-ltb _ _ (c .before .if2 .left) in
+    let b = ne-eqb _ _ (c .if3 .taken) in
+    (simp (z, a, b), simp (z, a, b))
 
 returns-4 : tie.Need-returns-4
 unfolding sendAnswer sendRoom sendChecks first
 returns-4 c =
-    let a = le-ltb _ _ (c .before .before .before .if1 .left) in
-    let b = eq-eqb _ _ (c .before .before .if2 .left) in
-    let d = lt-leb _ _ (c .before .if3 .left) in
-    let e = lt-ltb _ _ (c .if4 .taken) in
-    (simp (a, b, d, e), simp (a, b, d, e))
+    let z = le-ltb _ _ (c .before .before .before .if1 .left) in
+    let a = le-ltb _ _ (c .before .before .if2 .left) in
+    let b = eq-eqb _ _ (c .before .if3 .left) in
+    let d = le-leb _ _ (c .if4 .taken) in
+    (simp (z, a, b, d), simp (z, a, b, d))
 
-high-control-requires : tie.Need-high-control-requires
-high-control-requires c κs = search needs
+mul-if5 : tie.Need-mul-if5
+mul-if5 c = search needs
 
 returns-5 : tie.Need-returns-5
 unfolding sendAnswer sendRoom sendChecks first
 returns-5 c =
-    let a = le-ltb _ _ (c .before .before .before .before .before .if1 .left) in
-    let b = eq-eqb _ _ (c .before .before .before .before .if2 .left) in
-    let d = lt-leb _ _ (c .before .before .before .if3 .left) in
-    let e = le-ltb _ _ (c .before .before .if4 .left) in
-    let h = sym (c .before .high-control .ensures) in
-    let f = lt-ltb _ _ (c .if5 .taken) in
-    (simp (a, b, d, e, h, f), simp (a, b, d, e, h, f))
+    let z = le-ltb _ _ (c .before .before .before .before .if1 .left) in
+    let a = le-ltb _ _ (c .before .before .before .if2 .left) in
+    let b = eq-eqb _ _ (c .before .before .if3 .left) in
+    let d = lt-leb _ _ (c .before .if4 .left) in
+    let e = lt-ltb _ _ (c .if5 .taken) in
+    (simp (z, a, b, d, e), simp (z, a, b, d, e))
 
-send-all-requires : tie.Need-send-all-requires
-send-all-requires c κs =
-    let b = now (c .before .before .before .before .before .before .before .before .before .args .vectors) in
-    (c .before .before .before .before .before .before .if1 .left, c .before .before .before .before .before .if2 .left, c .before .before .before .if4 .left, low b (c .before .before .high-control .result) (c .before .before .before .before .before .if2 .left) (c .before .before .high-control .ensures) (c .before .if5 .left))
-
-same-length : tie.Need-same-length
-same-length c = search needs
+high-control-requires : tie.Need-high-control-requires
+high-control-requires c κs = search needs
 
 returns-6 : tie.Need-returns-6
 unfolding sendAnswer sendRoom sendChecks first
 returns-6 c =
-    let a = le-ltb _ _ (c .before .before .before .before .before .before .before .before .before .if1 .left) in
-    let b = eq-eqb _ _ (c .before .before .before .before .before .before .before .before .if2 .left) in
-    let d = lt-leb _ _ (c .before .before .before .before .before .before .before .if3 .left) in
-    let e = le-ltb _ _ (c .before .before .before .before .before .before .if4 .left) in
-    let h = sym (c .before .before .before .before .before .high-control .ensures) in
-    let f = le-ltb _ _ (c .before .before .before .before .if5 .left) in
-    (simp (a, b, d, e, h, f) (c .before .before .send-all .ensures .0), simp (a, b, d, e, h, f) (c .before .before .send-all .ensures .1))
+    let z = le-ltb _ _ (c .before .before .before .before .before .before .if1 .left) in
+    let a = le-ltb _ _ (c .before .before .before .before .before .if2 .left) in
+    let b = eq-eqb _ _ (c .before .before .before .before .if3 .left) in
+    let d = lt-leb _ _ (c .before .before .before .if4 .left) in
+    let e = le-ltb _ _ (c .before .before .if5 .left) in
+    let h = sym (c .before .high-control .ensures) in
+    let f = lt-ltb _ _ (c .if6 .taken) in
+    (simp (z, a, b, d, e, h, f), simp (z, a, b, d, e, h, f))
+
+edition-of-requires : tie.Need-edition-of-requires
+edition-of-requires c κs = search needs
+
+send-all-requires : tie.Need-send-all-requires
+send-all-requires c κs =
+    (c .before .before .before .before .before .before .before .if2 .left, c .before .before .before .before .before .before .if3 .left, c .before .before .before .before .if5 .left, low (now (c .before .before .before .before .before .before .before .before .before .before .before .args .vectors)) (c .before .before .before .high-control .result) (c .before .before .before .before .before .before .if3 .left) (c .before .before .before .high-control .ensures) (c .before .before .if6 .left))
+
+same-length : tie.Need-same-length
+same-length c = search needs
+
+returns-7 : tie.Need-returns-7
+unfolding sendAnswer sendRoom sendChecks first
+returns-7 c =
+    let z = le-ltb _ _ (c .before .before .before .before .before .before .before .before .before .before .before .if1 .left) in
+    let a = le-ltb _ _ (c .before .before .before .before .before .before .before .before .before .before .if2 .left) in
+    let b = eq-eqb _ _ (c .before .before .before .before .before .before .before .before .before .if3 .left) in
+    let d = lt-leb _ _ (c .before .before .before .before .before .before .before .before .if4 .left) in
+    let e = le-ltb _ _ (c .before .before .before .before .before .before .before .if5 .left) in
+    let h = sym (c .before .before .before .before .before .before .high-control .ensures) in
+    let f = le-ltb _ _ (c .before .before .before .before .before .if6 .left) in
+    let g = sym (c .before .before .before .before .edition-of .ensures) in
+    (simp (z, a, b, d, e, h, f, g) (c .before .before .send-all .ensures .0), simp (z, a, b, d, e, h, f, g) (c .before .before .send-all .ensures .1))
 
 pub send-spec : {M : Type 1} → statement M
 send-spec =
@@ -82,10 +97,12 @@ send-spec =
     returns
     returns-2
     returns-3
-    mul-if4
     returns-4
-    high-control-requires
+    mul-if5
     returns-5
+    high-control-requires
+    returns-6
+    edition-of-requires
     send-all-requires
     same-length
-    returns-6)
+    returns-7)

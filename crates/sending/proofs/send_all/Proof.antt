@@ -4,7 +4,8 @@ use mathlib.Core.Path.{refl, sym, subst}
 use Prim.Native.Nat.{ℕ}
 use denote.Ref.{now}
 use Rattle.scrambler.proofs.Laws.{mirror-lt}
-use Rattle.sending.proofs.Answers.{answered, placed}
+use Rattle.tables.proofs.Entries.{lent, lends}
+use Rattle.sending.proofs.Answers.{filled-in, answered, placed}
 use borrow.Author.Needs.{needs}
 use Rattle.sending.proofs.send_all.Statement.{statement}
 use Rattle.sending.proofs.send_all.Tie as tie
@@ -17,7 +18,7 @@ block-tables-requires c κs = search needs
 
 send-groups-requires : tie.Need-send-groups-requires
 send-groups-requires c κs =
-    (c .before .before .block-tables .ensures, c .before .before .before .before .before .before .pre .0, c .before .before .before .before .before .before .pre .1, c .before .before .before .before .before .before .pre .2, subst (λ (h : ℕ). h < 2 ^ 58) (sym (c .before .before .before .mirrored .ensures)) (mirror-lt (c .before .before .before .before .before .before .args .start)), refl, c .before .before .before .before .before .before .pre .3)
+    (lends (c .before .before .before .before .before .before .args .edition) _ (c .before .before .block-tables .ensures), c .before .before .before .before .before .before .pre .0, c .before .before .before .before .before .before .pre .1, c .before .before .before .before .before .before .pre .2, subst (λ (h : ℕ). h < 2 ^ 58) (sym (c .before .before .before .mirrored .ensures)) (mirror-lt (c .before .before .before .before .before .before .args .start)), refl, c .before .before .before .before .before .before .pre .3)
 
 mirrored-requires-2 : tie.Need-mirrored-requires-2
 mirrored-requires-2 c κs = search needs
@@ -34,9 +35,11 @@ returns c =
     let l = now (c .before .before .before .before .before .before .before .before .before .before .before .args .line) in
     let e = c .before .before .before .before .before .before .before .before .mirrored .ensures in
     let r = c .before .before .before .before .send-groups .result in
-    let f = c .before .before .before .before .send-groups .ensures in (
-      answered b l _ (c .before .before .before .before .before .before .before .before .before .before .before .args .start) (c .before .before .before .before .before .before .before .before .mirrored .result) r e f (c .before .mirrored2 .result) (c .state-number .result) (c .before .mirrored2 .ensures) (c .state-number .ensures .0),
-      placed b l _ (c .before .before .before .before .before .before .before .before .before .before .before .args .start) (c .before .before .before .before .before .before .before .before .mirrored .result) r e f,
+    let ed = c .before .before .before .before .before .before .before .before .before .before .before .args .edition in
+    let k = lent ed _ (c .before .before .before .before .before .before .before .block-tables .ensures) in
+    let f = filled-in _ ed k (c .before .before .before .before .send-groups .ensures) in (
+      answered ed b l _ (c .before .before .before .before .before .before .before .before .before .before .before .args .start) (c .before .before .before .before .before .before .before .before .mirrored .result) r e f (c .before .mirrored2 .result) (c .state-number .result) (c .before .mirrored2 .ensures) (c .state-number .ensures .0),
+      placed ed b l _ (c .before .before .before .before .before .before .before .before .before .before .before .args .start) (c .before .before .before .before .before .before .before .before .mirrored .result) r e f,
     )
 
 pub send-all-spec : {M : Type 1} → statement M

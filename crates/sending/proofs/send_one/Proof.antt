@@ -20,8 +20,8 @@ add-replaced : tie.Need-add-replaced
 add-replaced c = search needs
 
 returns : tie.Need-returns
-returns c v h =
-    step (c .before .before .before .before .before .args .s) (c .before .before .before .before .before .args .e) v (c .before .before .before .before .diagram-step .result) (c .before .before .before .block-in .result) (c .before .before .scramble .result .word) (c .before .before .scramble .result .history) (c .before .replaced-in .result)
+returns c ed v h =
+    step ed (c .before .before .before .before .before .args .s) (c .before .before .before .before .before .args .e) v (c .before .before .before .before .diagram-step .result) (c .before .before .before .block-in .result) (c .before .before .scramble .result .word) (c .before .before .scramble .result .history) (c .before .replaced-in .result)
     h (c .before .before .before .before .diagram-step .ensures) (c .before .before .before .block-in .ensures) (c .before .before .scramble .ensures .0) (c .before .before .scramble .ensures .1) (c .before .replaced-in .ensures .0)
 
 pub send-one-spec : {M : Type 1} → statement M

@@ -3,6 +3,7 @@ use mathlib.Core.Path.{ap, _∙_}
 use native.Mathlib.Omega.{arith}
 use denote.Ref.{now}
 use Rattle.block.specs.Block.{carrier}
+use Rattle.tables.specs.Tables.{editionIn}
 use Rattle.encoding.specs.Answer.{codedOf}
 use Rattle.sending.proofs.Laws.{vector-read}
 use borrow.Author.Needs.{needs}
@@ -37,7 +38,7 @@ returns : tie.Need-returns
 returns c =
     c .encode .ensures
     ∙ ap codedOf
-    (ap carrier
+    (ap (carrier (editionIn (now (c .before .before .before .before .before .before .args .t))))
     (vector-read (now (c .before .before .before .before .before .before .args .bytes)) (c .before .before .before .before .before .before .args .at) (c .before .before .lanes-at .result) (c .before .lanes-at2 .result) (λ n. omega (arith, c .before .before .before .shared-slice-known3 .given n)) (c .before .before .before .before .before .before .pre .1) (c .before .before .lanes-at .ensures) (c .before .lanes-at2 .ensures)))
 
 pub vector-at-spec : {M : Type 1} → statement M

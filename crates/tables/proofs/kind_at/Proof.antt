@@ -1,21 +1,22 @@
 -- `tables::kind_at` meets its contract: a kind is known by its number.
 use mathlib.Core.Path.{_≡_, refl, _∙_, sym, ap}
 use mathlib.Core.List.{[], _∷_}
-use Prim.Native.Nat.{ℕ, _≤_}
+use Prim.Native.Nat.{ℕ, _≤_, _<_}
 use native.Mathlib.Omega.{arith}
-use lib.Dec.{lit≤}
+use lib.Dec.{leb, leb→le}
 use lib.ListN.{getD}
 use borrow.Author.Needs.{needs}
 use Rattle.block.specs.declared.Kind.{Kind}
-use Rattle.block.specs.declared.Kind.the-variants.{D, C, S, T, E}
+use Rattle.block.specs.declared.Kind.the-variants.{D, C, S, T, LI, E}
 use Rattle.block.specs.Rows.{row}
 use Rattle.tables.specs.Tables.{kindNumber}
+use Rattle.block.proofs.Tests.{at}
 use Rattle.tables.proofs.Entries as entries
 use Rattle.tables.proofs.kind_at.Statement.{statement}
 use Rattle.tables.proofs.kind_at.Tie as tie
 
 kindFrom : ℕ → Kind
-kindFrom n = getD (D ∷ C ∷ S ∷ T ∷ []) n E
+kindFrom n = getD (D ∷ C ∷ S ∷ T ∷ E ∷ []) n LI
 
 back : (k : Kind) → kindFrom (kindNumber k) ≡ k
 unfolding kindFrom
@@ -24,16 +25,14 @@ back C = refl
 back S = refl
 back T = refl
 back E = refl
+back LI = refl
 
 by-number : (k l : Kind) → kindNumber k ≡ kindNumber l → k ≡ l
 by-number k l e = sym (back k) ∙ ap kindFrom e ∙ back l
 
-at-most : (k : Kind) → kindNumber k ≤ 4
-at-most D = lit≤ tt
-at-most C = lit≤ tt
-at-most S = lit≤ tt
-at-most T = lit≤ tt
-at-most E = lit≤ tt
+-- no row has kind E or LI
+at-most : (r : ℕ) → r < 16 → kindNumber (row r .kind) ≤ 3
+at-most r h = leb→le (kindNumber (row r .kind)) 3 (at (λ r. leb (kindNumber (row r .kind)) 3) 16 tt r h)
 
 add-n : tie.Need-add-n
 add-n c = search needs
@@ -67,7 +66,7 @@ returns-4 c =
 returns-5 : tie.Need-returns-5
 returns-5 c =
     let n = entries.kind-at (c .before .before .before .before .before .args .t .now) (c .before .before .before .before .before .pre .1) (c .before .before .before .before .before .args .r) (c .before .before .before .before .before .pre .0) in
-    by-number E (row (c .before .before .before .before .before .args .r) .kind) (omega (arith, at-most (row (c .before .before .before .before .before .args .r) .kind)))
+    by-number E (row (c .before .before .before .before .before .args .r) .kind) (omega (arith, at-most (c .before .before .before .before .before .args .r) (c .before .before .before .before .before .pre .0)))
 
 pub kind-at-spec : {M : Type 1} → statement M
 kind-at-spec =

@@ -6,7 +6,7 @@ use mathlib.Core.Logic.{_⊎_, inl, inr}
 use Prim.Native.Nat.{ℕ}
 use native.Mathlib.Omega.{arith}
 use Rattle.diagrams.specs.declared.State.{State}
-use Rattle.diagrams.specs.declared.State.the-variants.{Init, Control, Data, Terminate, Error}
+use Rattle.diagrams.specs.declared.State.the-variants.{Init, Control, Data, Terminate, Error, LowPower}
 use Rattle.receiving.specs.Receive.{answerIn, decodes, errs}
 use Rattle.receiving.specs.Counted.{handOut}
 use Rattle.receiving.specs.Loop.{testedIn}
@@ -19,16 +19,19 @@ use Rattle.receiving.proofs.answering.hand_out.Statement.{statement}
 use Rattle.receiving.proofs.answering.hand_out.Tie as tie
 
 -- the states of the last arm answer the decoded block, and no error
-in-states : (s : State) → OneOf (1 ∷ 2 ∷ 3 ∷ []) (tagOf S.the-type s) → (decodes s ≡ true) × (errs s ≡ false)
+in-states : (s : State) → OneOf (1 ∷ 2 ∷ 3 ∷ 4 ∷ []) (tagOf S.the-type s) → (decodes s ≡ true) × (errs s ≡ false)
 in-states Init (inl e) = absurd (omega (arith, e))
 in-states Init (inr (inl e)) = absurd (omega (arith, e))
-in-states Init (inr (inr e)) = absurd (omega (arith, e))
+in-states Init (inr (inr (inl e))) = absurd (omega (arith, e))
+in-states Init (inr (inr (inr e))) = absurd (omega (arith, e))
 in-states Control h = (refl, refl)
 in-states Data h = (refl, refl)
 in-states Terminate h = (refl, refl)
+in-states LowPower h = (refl, refl)
 in-states Error (inl e) = absurd (omega (arith, e))
 in-states Error (inr (inl e)) = absurd (omega (arith, e))
-in-states Error (inr (inr e)) = absurd (omega (arith, e))
+in-states Error (inr (inr (inl e))) = absurd (omega (arith, e))
+in-states Error (inr (inr (inr e))) = absurd (omega (arith, e))
 
 -- which give the block's own vector
 as-decoded : (s : State) (v : List ℕ) → decodes s ≡ true → answerIn s v ≡ v
@@ -37,6 +40,7 @@ as-decoded Init v d = absurd (true≢false (sym d))
 as-decoded Control v d = refl
 as-decoded Data v d = refl
 as-decoded Terminate v d = refl
+as-decoded LowPower v d = refl
 as-decoded Error v d = absurd (true≢false (sym d))
 
 enum-told : tie.Need-enum-told

@@ -32,6 +32,9 @@ enum-told-3 c = search needs
 enum-told-4 : tie.Need-enum-told-4
 enum-told-4 c = search needs
 
+enum-told-5 : tie.Need-enum-told-5
+enum-told-5 c = search needs
+
 enum-known-class : tie.Need-enum-known-class
 enum-known-class c = search needs
 
@@ -56,7 +59,11 @@ returns-4 c = counted-is (c .before .before .before .before .before .before .arg
 
 returns-5 : tie.Need-returns-5
 unfolding testedIn
-returns-5 c = counted-is (c .before .before .before .before .before .before .before .before .args .c) (testedIn (c .before .before .before .before .before .before .before .before .args .h)) _ _ (c .before .before .before .before .before .one-if .ensures .0) (c .count-reason .ensures ∙ ap (reasoned _) (sym (c .before .before .class .given .1) ∙ c .before .before .before .before .before .before .before .counted-as .ensures))
+returns-5 c = counted-is (c .before .before .before .before .before .before .args .c) (testedIn (c .before .before .before .before .before .before .args .h)) _ _ (c .before .before .before .one-if .ensures .0) (free _ Class.LI tt ∙ ap (reasoned _) (sym (c .enum-told5 .given .1) ∙ c .before .before .before .before .before .counted-as .ensures))
+
+returns-6 : tie.Need-returns-6
+unfolding testedIn
+returns-6 c = counted-is (c .before .before .before .before .before .before .before .before .args .c) (testedIn (c .before .before .before .before .before .before .before .before .args .h)) _ _ (c .before .before .before .before .before .one-if .ensures .0) (c .count-reason .ensures ∙ ap (reasoned _) (sym (c .before .before .class .given .1) ∙ c .before .before .before .before .before .before .before .counted-as .ensures))
 
 pub count-block-spec : {M : Type 1} → statement M
 count-block-spec =
@@ -70,10 +77,12 @@ count-block-spec =
     enum-told-2
     enum-told-3
     enum-told-4
+    enum-told-5
     enum-known-class
     count-reason-requires
     returns
     returns-2
     returns-3
     returns-4
-    returns-5)
+    returns-5
+    returns-6)

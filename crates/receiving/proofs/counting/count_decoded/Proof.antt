@@ -25,6 +25,9 @@ enum-told-4 c = search needs
 enum-told-5 : tie.Need-enum-told-5
 enum-told-5 c = search needs
 
+enum-told-6 : tie.Need-enum-told-6
+enum-told-6 c = search needs
+
 returns : tie.Need-returns
 returns c = decoded-other (c .before .before .args .n) (c .before .before .args .class) (ap (λ (k : Class). isS (kindIn k)) (c .enum-told .given .1))
 
@@ -40,6 +43,9 @@ returns-4 c = decoded-other (c .before .before .args .n) (c .before .before .arg
 returns-5 : tie.Need-returns-5
 returns-5 c = decoded-other (c .before .before .args .n) (c .before .before .args .class) (ap (λ (k : Class). isS (kindIn k)) (c .enum-told5 .given .1))
 
+returns-6 : tie.Need-returns-6
+returns-6 c = decoded-other (c .before .before .args .n) (c .before .before .args .class) (ap (λ (k : Class). isS (kindIn k)) (c .enum-told6 .given .1))
+
 pub count-decoded-spec : {M : Type 1} → statement M
 count-decoded-spec =
     tie.close
@@ -50,8 +56,10 @@ count-decoded-spec =
     add-r
     enum-told-4
     enum-told-5
+    enum-told-6
     returns
     returns-2
     returns-3
     returns-4
-    returns-5)
+    returns-5
+    returns-6)

@@ -1,0 +1,4 @@
+pub mod OldKinds
+pub mod Steps
+pub mod Sending
+pub mod Receiving
