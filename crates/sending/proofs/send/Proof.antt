@@ -12,20 +12,20 @@ use Rattle.sending.proofs.send.Tie as tie
 returns : tie.Need-returns
 unfolding sendAnswer sendRoom sendChecks first
 returns c =
-    let z = lt-ltb _ _ (c .if1 .taken) in
+    let z = lt-ltb 1 _ (c .if1 .taken) in
     (simp z, simp z)
 
 returns-2 : tie.Need-returns-2
 unfolding sendAnswer sendRoom sendChecks first
 returns-2 c =
-    let z = le-ltb _ _ (c .before .if1 .left) in
+    let z = le-ltb 1 _ (c .before .if1 .left) in
     let a = lt-ltb _ _ (c .if2 .taken) in
     (simp (z, a), simp (z, a))
 
 returns-3 : tie.Need-returns-3
 unfolding sendAnswer sendRoom sendChecks first
 returns-3 c =
-    let z = le-ltb _ _ (c .before .before .if1 .left) in
+    let z = le-ltb 1 _ (c .before .before .if1 .left) in
     let a = le-ltb _ _ (c .before .if2 .left) in
     let b = ne-eqb _ _ (c .if3 .taken) in
     (simp (z, a, b), simp (z, a, b))
@@ -33,7 +33,7 @@ returns-3 c =
 returns-4 : tie.Need-returns-4
 unfolding sendAnswer sendRoom sendChecks first
 returns-4 c =
-    let z = le-ltb _ _ (c .before .before .before .if1 .left) in
+    let z = le-ltb 1 _ (c .before .before .before .if1 .left) in
     let a = le-ltb _ _ (c .before .before .if2 .left) in
     let b = eq-eqb _ _ (c .before .if3 .left) in
     let d = le-leb _ _ (c .if4 .taken) in
@@ -45,7 +45,7 @@ mul-if5 c = search needs
 returns-5 : tie.Need-returns-5
 unfolding sendAnswer sendRoom sendChecks first
 returns-5 c =
-    let z = le-ltb _ _ (c .before .before .before .before .if1 .left) in
+    let z = le-ltb 1 _ (c .before .before .before .before .if1 .left) in
     let a = le-ltb _ _ (c .before .before .before .if2 .left) in
     let b = eq-eqb _ _ (c .before .before .if3 .left) in
     let d = lt-leb _ _ (c .before .if4 .left) in
@@ -58,7 +58,7 @@ high-control-requires c κs = search needs
 returns-6 : tie.Need-returns-6
 unfolding sendAnswer sendRoom sendChecks first
 returns-6 c =
-    let z = le-ltb _ _ (c .before .before .before .before .before .before .if1 .left) in
+    let z = le-ltb 1 _ (c .before .before .before .before .before .before .if1 .left) in
     let a = le-ltb _ _ (c .before .before .before .before .before .if2 .left) in
     let b = eq-eqb _ _ (c .before .before .before .before .if3 .left) in
     let d = lt-leb _ _ (c .before .before .before .if4 .left) in
@@ -80,7 +80,7 @@ same-length c = search needs
 returns-7 : tie.Need-returns-7
 unfolding sendAnswer sendRoom sendChecks first
 returns-7 c =
-    let z = le-ltb _ _ (c .before .before .before .before .before .before .before .before .before .before .before .if1 .left) in
+    let z = le-ltb 1 _ (c .before .before .before .before .before .before .before .before .before .before .before .if1 .left) in
     let a = le-ltb _ _ (c .before .before .before .before .before .before .before .before .before .before .if2 .left) in
     let b = eq-eqb _ _ (c .before .before .before .before .before .before .before .before .before .if3 .left) in
     let d = lt-leb _ _ (c .before .before .before .before .before .before .before .before .if4 .left) in
