@@ -24,6 +24,16 @@ word control lanes = control ∷ lanes % 2 ^ 8 ∷ lanes / 2 ^ 8 % 2 ^ 8 ∷ lan
 abbrev pub twoWords : ℕ → ℕ → ℕ → ℕ → List ℕ
 twoWords c0 d0 c1 d1 = word c0 d0 ++ word c1 d1
 
+-- ---- Editions (document 02, 9/13)
+
+-- "Sender and receiver take an edition, old or new": 0 is the old one, 1 the new one.
+unfoldable pub editionOf : ℕ → Edition
+editionOf n = cond (eqb n 0) Old New
+
+-- "13, edition unknown"
+abbrev pub editionCheck : ℕ → Check
+editionCheck n = check 13 (ltb 1 n)
+
 -- ---- Characters (Table 49-1): each XGMII octet with its code
 
 -- "These eight 7-bit codes are the valid control characters."
@@ -34,13 +44,6 @@ controls = (0x07, 0x00) ∷ (0xfe, 0x1e) ∷ (0x1c, 0x2d) ∷ (0x3c, 0x33) ∷ (
 abbrev pub controlsIn : Edition → List (ℕ × ℕ)
 controlsIn Old = controls
 controlsIn New = (0x06, 0x06) ∷ controls
-
--- "an edition, old or new": the number 0 or 1. "Refusals: 13, edition unknown, checked before all others".
-unfoldable pub editionOf : ℕ → Edition
-editionOf n = cond (eqb n 0) Old New
-
-abbrev pub editionCheck : ℕ → Check
-editionCheck n = check 13 (ltb 1 n)
 
 -- "9c has ordered set code 0 and 5c code f"
 abbrev pub sets : List (ℕ × ℕ)
@@ -199,10 +202,6 @@ errorVector = 0x0f ∷ 0xfe ∷ 0xfe ∷ 0xfe ∷ 0xfe ∷ 0x0f ∷ 0xfe ∷ 0xf
 abbrev pub localFaultVector : List ℕ
 localFaultVector = 0x01 ∷ 0x9c ∷ 0x00 ∷ 0x00 ∷ 0x01 ∷ 0x01 ∷ 0x9c ∷ 0x00 ∷ 0x00 ∷ 0x01 ∷ []
 
-abbrev pub allBelow : ℕ → List ℕ → Bool
-allBelow m [] = true
-allBelow m (a ∷ l) = ltb a m && allBelow m l
-
 -- low power idle: eight control characters 06
 abbrev pub lowPowerVector : List ℕ
 lowPowerVector = 0x0f ∷ 0x06 ∷ 0x06 ∷ 0x06 ∷ 0x06 ∷ 0x0f ∷ 0x06 ∷ 0x06 ∷ 0x06 ∷ 0x06 ∷ []
@@ -221,6 +220,10 @@ lowPower f v = eqb (f .type) 0x1e && same v lowPowerVector
 
 unfoldable pub kindFor : Format → List ℕ → Kind
 kindFor f v = cond (lowPower f v) LI (f .kind)
+
+abbrev pub allBelow : ℕ → List ℕ → Bool
+allBelow m [] = true
+allBelow m (a ∷ l) = ltb a m && allBelow m l
 
 module _ (ed : Edition) where
   -- character p of fields that begin at bit 0 of x: its octet, not below 256 where its bits are not valid

@@ -84,7 +84,7 @@ module _ (line : List ℕ) where
   judged-same : judge Init (runOf Old line .tested) ≡ judgedOn line
   judged-same = ap (judge Init) (tested-same line) ∙ judge-same Init (takenOf Old line) first
 
-  summary-same : summaryOf Old line ≡ summaryBefore line
+  pub summary-same : summaryOf Old line ≡ summaryBefore line
   unfolding summaryOf summaryBefore vectorsOf answers
   summary-same = λ i. record {
     counts = countsOf (tested-same line i);
@@ -103,7 +103,7 @@ module _ (line : List ℕ) where
   unfolding receiveAnswer receiveChecks receiveAnswerBefore editionOf firstOf
   answer-same room = ap (λ (s : Summary). byVerdict (firstOf (receiveChecksBefore (length line) room)) (received s) refused) summary-same
 
-  room-same : (room : List ℕ) → receiveRoom 0 line room ≡ receiveRoomBefore line room
+  pub room-same : (room : List ℕ) → receiveRoom 0 line room ≡ receiveRoomBefore line room
   unfolding receiveRoom receiveChecks receiveRoomBefore editionOf firstOf
   room-same room =
       ap (λ (vs : List ℕ). byVerdict (firstOf (receiveChecksBefore (length line) (length room))) (vs ++ drop (length vs) room) (λ number place. room)) bytes-same

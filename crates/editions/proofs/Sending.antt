@@ -18,7 +18,7 @@ use Rattle.diagrams.specs.declared.State.the-variants.{Init, Control, Data, Ter
 use Rattle.diagrams.proofs.Laws.{never-low}
 use Rattle.sending.specs.Send.{vectorsOf, errorBlock, ownBlock, blockIn, replacedIn, stateAfter, replaced, sentBlocks, lineWords, historyOver, blocksFor, sentLine}
 use Rattle.sending.specs.Answer.{SendAnswer, sent, refused, sendChecks, sentFor, sendAnswer, sendRoom}
-use Rattle.editions.specs.Before.{kindBefore, stepBefore, blockBefore, stateBefore, replacedBefore, blocksBefore, lineBefore, sendChecksBefore, sendAnswerBefore, sendRoomBefore}
+use Rattle.editions.specs.Before.{kindBefore, stepBefore, blockBefore, stateBefore, replacedBefore, blocksBefore, sentBefore, lineBefore, sendChecksBefore, sendAnswerBefore, sendRoomBefore}
 use Rattle.editions.specs.Unchanged.{SendingUnchanged}
 use Rattle.editions.proofs.OldKinds.{old-carrier, vector-kind}
 use Rattle.editions.proofs.Steps.{same-step, first}
@@ -69,17 +69,20 @@ blocks-same s (v ∷ vs) n =
 -- ---- vector bytes and a start state
 
 module _ (bytes : List ℕ) (start : ℕ) where
+  pub sent-same : sentFor Old bytes start ≡ sentBefore bytes start
+  unfolding sentFor blocksFor
+  sent-same =
+      λ i. sent (mirror (historyOver (mirror start) (blocks-same Init (vectorsOf bytes) first i))) (stateNumber (state-same Init (vectorsOf bytes) first i)) (replaced-same Init (vectorsOf bytes) first i)
+
   line-same : sentLine Old bytes start ≡ lineBefore bytes start
   unfolding sentLine blocksFor
   line-same = ap (λ (bs : List Block). cut 8 (streamBit 66 (lineWords (mirror start) bs)) (33 * (length bytes / 40))) (blocks-same Init (vectorsOf bytes) first)
 
   answer-same : (room : ℕ) → sendAnswer 0 bytes start room ≡ sendAnswerBefore bytes start room
-  unfolding sendAnswer sendChecks sendAnswerBefore sentFor editionOf firstOf blocksFor
-  answer-same room =
-      ap (λ (a : SendAnswer). byVerdict (firstOf (sendChecksBefore bytes start room)) a refused)
-      (λ i. sent (mirror (historyOver (mirror start) (blocks-same Init (vectorsOf bytes) first i))) (stateNumber (state-same Init (vectorsOf bytes) first i)) (replaced-same Init (vectorsOf bytes) first i))
+  unfolding sendAnswer sendChecks sendAnswerBefore editionOf firstOf
+  answer-same room = ap (λ (a : SendAnswer). byVerdict (firstOf (sendChecksBefore bytes start room)) a refused) sent-same
 
-  room-same : (room : List ℕ) → sendRoom 0 bytes start room ≡ sendRoomBefore bytes start room
+  pub room-same : (room : List ℕ) → sendRoom 0 bytes start room ≡ sendRoomBefore bytes start room
   unfolding sendRoom sendChecks sendRoomBefore editionOf firstOf
   room-same room =
       ap (λ (line : List ℕ). byVerdict (firstOf (sendChecksBefore bytes start (length room))) (line ++ drop (length line) room) (λ number place. room)) line-same

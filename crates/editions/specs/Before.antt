@@ -133,11 +133,12 @@ sendChecksBefore bytes start room =
 abbrev pub lineBefore : List ℕ → ℕ → List ℕ
 lineBefore bytes start = cut 8 (streamBit 66 (lineWords (mirror start) (blocksBefore Init (vectorsOf bytes)))) (33 * (length bytes / 40))
 
+abbrev pub sentBefore : List ℕ → (start : ℕ) → SendAnswer
+sentBefore bytes start =
+    sent (mirror (historyOver (mirror start) (blocksBefore Init (vectorsOf bytes)))) (stateNumber (stateBefore Init (vectorsOf bytes))) (replacedBefore Init (vectorsOf bytes))
+
 unfoldable pub sendAnswerBefore : List ℕ → (start room : ℕ) → SendAnswer
-sendAnswerBefore bytes start room =
-    byVerdict (first (sendChecksBefore bytes start room))
-    (sent (mirror (historyOver (mirror start) (blocksBefore Init (vectorsOf bytes)))) (stateNumber (stateBefore Init (vectorsOf bytes))) (replacedBefore Init (vectorsOf bytes)))
-    refused
+sendAnswerBefore bytes start room = byVerdict (first (sendChecksBefore bytes start room)) (sentBefore bytes start) refused
 
 unfoldable pub sendRoomBefore : List ℕ → ℕ → List ℕ → List ℕ
 sendRoomBefore bytes start room =
