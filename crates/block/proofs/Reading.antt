@@ -14,7 +14,7 @@ use Rattle.bits.proofs.Laws.{bit-mod, bit-shr}
 use Rattle.block.specs.declared.Edition.{Edition}
 use Rattle.block.specs.declared.Kind.{Kind}
 use Rattle.block.specs.declared.Kind.the-variants.{D, C, S, T as T′, E, LI}
-use Rattle.block.specs.Block.{Slot, Control, Calm, Data, Set, Start, Terminate, Format, noFormat, dataBlock, controlBlocks, lowPowerVector, same, kindFor, octetOf, controlBit, octetAt, flagAt, flagOf, laneOf, byType, formatOf, vectorOf, valid, allBelow, errorVector, kindBy, decodedBy, kindOf, decoded, isError}
+use Rattle.block.specs.Block.{Slot, Control, Calm, Data, Set, Start, Terminate, Format, noFormat, dataBlock, controlBlocks, lowPowerVector, same, kindFor, octetOf, controlBit, octetAt, flagAt, flagOf, laneOf, byType, formatOf, vectorOf, valid, allBelow, errorVector, kindBy, decodedBy, kindOf, decoded, isD, isError}
 use Rattle.block.specs.Rows.{width, fieldAt, placeAt, SameFlags}
 use Rattle.block.proofs.Tests.{both-left, both-right, all, eight, is-true, by-test}
 use Rattle.block.proofs.Formats.{octet-at, flag-at, flag-le, flags-lt, blind, sound, all-sound, sound-has, sound-width, sound-place, of-type, of-format}
@@ -40,16 +40,6 @@ pub below-at : (m : ℕ) (l : List ℕ) → 0 < m → Below m l → (n : ℕ) �
 below-at m [] z w n = z
 below-at m (a ∷ l) z w zero = w .0
 below-at m (a ∷ l) z w (suc n) = below-at m l z (w .1) n
-
--- ---- kinds
-
-abbrev isData : Kind → Bool
-isData D = true
-isData C = false
-isData S = false
-isData T′ = false
-isData E = false
-isData LI = false
 
 -- ---- the kind of a valid vector: LI, or that of its format
 
@@ -171,12 +161,12 @@ module _ (ed : Edition) where
   unfolding kindOf
   kind-data h x = go (eqb h 2) refl (eqb h 1)
     where
-      never : (f : Format) → T (not (isData (f .kind))) → kindBy ed f x ≡ D → h ≡ 2
-      never f t = decided (λ k v. k ≡ D → h ≡ 2) f x (λ e q. absurd (subst (λ (k : Kind). T (not (isData k))) q (kind-for (λ k. T (not (isData k))) f (vectorOf ed f x) tt t))) (λ e q. absurd (subst (λ (k : Kind). T (not (isData k))) q tt))
+      never : (f : Format) → T (not (isD (f .kind))) → kindBy ed f x ≡ D → h ≡ 2
+      never f t = decided (λ k v. k ≡ D → h ≡ 2) f x (λ e q. absurd (subst (λ (k : Kind). T (not (isD k))) q (kind-for (λ k. T (not (isD k))) f (vectorOf ed f x) tt t))) (λ e q. absurd (subst (λ (k : Kind). T (not (isD k))) q tt))
 
       go : (a : Bool) → eqb h 2 ≡ a → (b : Bool) → kindBy ed (cond a dataBlock (cond b (byType controlBlocks (x % 2 ^ 8)) noFormat)) x ≡ D → h ≡ 2
       go true e b q = eqb-true h 2 e
-      go false e true q = of-type (λ f. kindBy ed f x ≡ D → h ≡ 2) (λ f. not (isData (f .kind))) controlBlocks tt never (never noFormat tt) (x % 2 ^ 8) q
+      go false e true q = of-type (λ f. kindBy ed f x ≡ D → h ≡ 2) (λ f. not (isD (f .kind))) controlBlocks tt never (never noFormat tt) (x % 2 ^ 8) q
       go false e false q = never noFormat tt q
 
   -- ---- a block that is not of kind E

@@ -258,14 +258,22 @@ module _ (ed : Edition) where
   unfoldable pub decoded : ℕ → ℕ → List ℕ
   decoded h x = decodedBy (formatOf h x) x
 
--- kinds E, S and T
-abbrev pub isError : Kind → Bool
-isError D = false
-isError C = false
-isError S = false
-isError T = false
-isError E = true
-isError LI = false
+-- the kinds by tests
+abbrev pub isD : Kind → Bool
+isD D = true
+isD C = false
+isD S = false
+isD T = false
+isD E = false
+isD LI = false
+
+abbrev pub isC : Kind → Bool
+isC D = false
+isC C = true
+isC S = false
+isC T = false
+isC E = false
+isC LI = false
 
 abbrev pub isS : Kind → Bool
 isS D = false
@@ -282,6 +290,14 @@ isT S = false
 isT T = true
 isT E = false
 isT LI = false
+
+abbrev pub isError : Kind → Bool
+isError D = false
+isError C = false
+isError S = false
+isError T = false
+isError E = true
+isError LI = false
 
 -- a vector is the error vector
 abbrev pub isErrorVector : List ℕ → Bool

@@ -13,7 +13,7 @@ use Rattle.scrambler.proofs.Laws.{mirror-lt}
 use Rattle.line.specs.declared.Block.{Block}
 use Rattle.line.specs.Word.{word}
 use Rattle.block.specs.declared.Edition.{Edition}
-use Rattle.block.specs.Block.{editionOf, vectorKind, localFaultVector}
+use Rattle.block.specs.Block.{editionOf, isC, vectorKind, localFaultVector}
 use Rattle.block.specs.declared.Kind.{Kind}
 use Rattle.block.specs.declared.Kind.the-variants.{D, C, S, T, LI, E}
 use Rattle.diagrams.specs.Diagram.{transmitOf, diagramOf, afterIdle}
@@ -26,7 +26,7 @@ use Rattle.receiving.specs.Receive as Receive
 use Rattle.receiving.specs.Receive.{answers}
 use Rattle.receiving.specs.Answer.{summaryOf}
 use Rattle.receiving.specs.declared.Link.{Link}
-use Rattle.demands.specs.Words.{accepts, legal, legalFrom, isControl, controlVector, controlVectors, Unbroken}
+use Rattle.demands.specs.Words.{accepts, legal, legalFrom, controlVector, controlVectors, Unbroken}
 use Rattle.demands.specs.Demand2.{Returnable, faults, Demand2}
 use Rattle.demands.proofs.Line.{AllFit}
 use Rattle.demands.proofs.Runs.{testedAll, valids, length-tested}
@@ -40,7 +40,7 @@ use Rattle.demands.proofs.Accepted.{four-each, ten-each, vectors-well, 
 -- ---- what is left of a list after its first vectors
 
 -- a control vector is of kind C
-is-control : (k : Kind) → isControl k ≡ true → k ≡ C
+is-control : (k : Kind) → isC k ≡ true → k ≡ C
 is-control D h = absurd (false≢true h)
 is-control C h = refl
 is-control S h = absurd (false≢true h)
@@ -67,7 +67,7 @@ module _ (ed : Edition) where
   control-again : (vs : List (List ℕ)) → controlVectors ed (take 1 vs) ≡ true → legalFrom ed Control vs ≡ legalFrom ed Init vs
   unfolding legalFrom diagramOf afterIdle controlVectors controlVector
   control-again [] c = refl
-  control-again (v ∷ vs) c = rw (is-control (vectorKind ed v) (and-left (isControl (vectorKind ed v)) true c))
+  control-again (v ∷ vs) c = rw (is-control (vectorKind ed v) (and-left (isC (vectorKind ed v)) true c))
 
   -- a legal list that begins with more control vectors than are left out is legal without them
   legal-drop : (n : ℕ) (vs : List (List ℕ)) → controlVectors ed (take (suc n) vs) ≡ true → legal ed vs ≡ true → legal ed (drop n vs) ≡ true
@@ -78,10 +78,10 @@ module _ (ed : Edition) where
       legal-drop n vs rest (sym (control-again vs (control-one n vs rest)) ∙ after (vectorKind ed v) first (legal-tail ed Init v vs l))
     where
       first : vectorKind ed v ≡ C
-      first = is-control (vectorKind ed v) (and-left (isControl (vectorKind ed v)) (controlVectors ed (take (suc n) vs)) c)
+      first = is-control (vectorKind ed v) (and-left (isC (vectorKind ed v)) (controlVectors ed (take (suc n) vs)) c)
 
       rest : controlVectors ed (take (suc n) vs) ≡ true
-      rest = and-right (isControl (vectorKind ed v)) (controlVectors ed (take (suc n) vs)) c
+      rest = and-right (isC (vectorKind ed v)) (controlVectors ed (take (suc n) vs)) c
 
       after : (k : Kind) → k ≡ C → legalFrom ed (transmitOf Init k) vs ≡ true → legalFrom ed Control vs ≡ true
       after k e h = ap (λ (m : Kind). legalFrom ed (transmitOf Init m) vs) (sym e) ∙ h

@@ -5,9 +5,7 @@ use mathlib.Core.Bool.{Bool, true, false, not, _&&_}
 use mathlib.Core.List.{List, [], _∷_}
 use Rattle.refusals.specs.First.{first, accepted}
 use Rattle.block.specs.declared.Edition.{Edition}
-use Rattle.block.specs.Block.{vectorKind}
-use Rattle.block.specs.declared.Kind.{Kind}
-use Rattle.block.specs.declared.Kind.the-variants.{D, C, S, T, LI, E}
+use Rattle.block.specs.Block.{isC, vectorKind}
 use Rattle.diagrams.specs.Diagram.{transmitOf}
 use Rattle.diagrams.specs.declared.State.{State}
 use Rattle.diagrams.specs.declared.State.the-variants.{Init, Control, Data, Terminate, Error, LowPower}
@@ -27,15 +25,6 @@ isError Terminate = false
 isError Error = true
 isError LowPower = false
 
--- kind C
-abbrev pub isControl : Kind → Bool
-isControl D = false
-isControl C = true
-isControl S = false
-isControl T = false
-isControl E = false
-isControl LI = false
-
 module _ (ed : Edition) where
   -- "A list is legal when no vector leads to E.": from a state of the transmit diagram, and "from INIT"
   unfoldable pub legalFrom : State → List (List ℕ) → Bool
@@ -49,7 +38,7 @@ module _ (ed : Edition) where
 
   -- "A control vector is one of kind C."
   unfoldable pub controlVector : List ℕ → Bool
-  controlVector v = isControl (vectorKind ed v)
+  controlVector v = isC (vectorKind ed v)
 
   -- every vector of a list is a control vector
   unfoldable pub controlVectors : List (List ℕ) → Bool

@@ -5,11 +5,11 @@ use Prim.Native.Nat.{ℕ}
 use native.Mathlib.Omega.{arith}
 use Rattle.block.specs.declared.Kind.{Kind}
 use Rattle.block.specs.declared.Kind.the-variants.{D, C, S, T, E, LI}
-use Rattle.block.specs.Block.{isS}
+use Rattle.block.specs.Block.{isC, isS}
 use Rattle.diagrams.specs.Diagram.{afterIdle, afterData, afterError, diagramOf, follows, stateNumber}
 use Rattle.diagrams.specs.declared.State.{State}
 use Rattle.diagrams.specs.declared.State.the-variants.{Init, Control, Data, Terminate, Error, LowPower}
-use Rattle.editions.specs.Before.{isC, idleBefore, dataBefore, errorBefore, stepBefore}
+use Rattle.editions.specs.Before.{idleBefore, dataBefore, errorBefore, stepBefore}
 
 idle : (low : State) (k : Kind) → (k ≡ LI → ⊥) → afterIdle low k ≡ idleBefore k
 unfolding afterIdle

@@ -13,11 +13,10 @@ use Rattle.scrambler.specs.Scrambler.{mirror}
 use Rattle.line.specs.declared.Block.{Block}
 use Rattle.block.specs.declared.Edition.the-variants.{Old}
 use Rattle.block.specs.declared.Kind.{Kind}
-use Rattle.block.specs.declared.Kind.the-variants.{D, C, S, T, E, LI}
 use Rattle.block.specs.declared.Reason.the-variants.{Header, BlockType, ControlCode, SetCode}
 use Rattle.block.specs.declared.Class.{Class}
 use Rattle.block.specs.declared.Class.the-variants.{Bad}
-use Rattle.block.specs.Block.{Format, dataBlock, controlBlocks, formatOf, decoded, some, says, good, isS, isT, kindIn, carries, payloadOf, Carrier, block, none, carrierKind, controlCheck}
+use Rattle.block.specs.Block.{Format, dataBlock, controlBlocks, formatOf, decoded, some, says, good, isD, isC, isS, isT, kindIn, carries, payloadOf, Carrier, block, none, carrierKind, controlCheck}
 use Rattle.diagrams.specs.Lock.{slipsOf}
 use Rattle.diagrams.specs.Diagram.{stateNumber}
 use Rattle.diagrams.specs.declared.State.{State}
@@ -52,23 +51,6 @@ abbrev pub kindBefore : List ℕ → Kind
 kindBefore v = carrierKind (carrierBefore v)
 
 -- ---- diagrams
-
--- kinds C and D
-abbrev pub isC : Kind → Bool
-isC D = false
-isC C = true
-isC S = false
-isC T = false
-isC E = false
-isC LI = false
-
-abbrev pub isD : Kind → Bool
-isD D = true
-isD C = false
-isD S = false
-isD T = false
-isD E = false
-isD LI = false
 
 -- "after INIT, C or T, kind C goes to C, S to D, others to E"
 abbrev pub idleBefore : Kind → State

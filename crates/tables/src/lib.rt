@@ -41,7 +41,7 @@ pub const NEXT: usize = 1618;
 
 pub const CODES: usize = 1634;
 
-// The entry of octet 06, below 256 in the tables of the newer edition alone.
+// The octet of control code 06: below 256, and so valid, in the newer edition alone.
 pub const LOW_POWER: usize = 262;
 
 // The edition of a number: 0 is the old one.
@@ -58,8 +58,7 @@ pub fn type_table() -> [u8; 256]
     data::TYPES
 }
 
-// The other tables, one after the other. Those of the newer edition have four entries more: octet and code 06, as a control character and as
-// one other than 1e.
+// The other tables, one after the other. The newer edition has four entries more.
 pub fn block_tables(edition: Edition) -> [u16; 3170]
     ensures { λ r. ⌜ r ≡ tables edition ⌝ }
 {
@@ -67,10 +66,10 @@ pub fn block_tables(edition: Edition) -> [u16; 3170]
     match edition {
         Edition::Old => {}
         Edition::New => {
-            t[262] = 6;
-            t[390] = 6;
-            t[1896] = 6;
-            t[2152] = 6;
+            t[262] = 6; // the octet of code 06
+            t[390] = 6; // in type 1e too
+            t[1896] = 6; // the code of octet 06
+            t[2152] = 6; // in type 1e too
         }
     }
     t
