@@ -240,7 +240,7 @@ static void print_bad_blocks(unsigned long lock, unsigned long code_in_new)
     else if (code_in_new == code)
         puts("  headers and types are good, codes are not: if they are many, this points to the far sender (its error blocks count too)");
     if (lock > 0 && code_in_new < code)
-        printf("  read with --energy-saving it is %lu control code: the link may have Energy Efficient Ethernet on\n", code_in_new);
+        printf("  with --energy-saving there are %lu control code faults: the link may have Energy Efficient Ethernet on\n", code_in_new);
 }
 
 static void print_link(unsigned long lock, unsigned long code_in_new)

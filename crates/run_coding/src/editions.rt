@@ -1,4 +1,4 @@
-// Document 02, 9/13, run and compared: code 06 differs from idle in two bits, so two flipped bits make low power idle of an idle.
+// Document 02, 9/13, run and compared: "Code 06 differs from idle in two bits", so in the newer edition two flipped bits make a 06 of an idle.
 use crate::print;
 use crate::print_bytes;
 use crate::received::print_answer;

@@ -1,4 +1,5 @@
-// Document 01, 'Run and compared': sending here, receiving in received.rt, a record's body handed on to either in captured.rt.
+// Document 01, 'Run and compared': sending here, receiving in received.rt, a record's body handed on to either in captured.rt; document 02, 9/13, in
+// editions.rt.
 use libc::STDOUT_FILENO;
 use refusals::Refusal;
 use refusals::number;
@@ -8,11 +9,13 @@ ghost use mathlib.Core.Path.{_≡_};
 ghost use lib.ListN.{length};
 
 // received.rt: receiving
-mod editions;
 mod received;
 
 // captured.rt: records of a capture
 mod captured;
+
+// editions.rt: damage in both editions
+mod editions;
 
 fn print(text: &[u8]) {
     io::write_all(STDOUT_FILENO, text);
