@@ -53,7 +53,7 @@ pub none-below : (l : List ℕ) → AllTell l → None 256 l → None 512 l → 
 none-below [] t p q = tt
 none-below (a ∷ l) t p q = (byte-if a (t .0) (p .0) (q .0), none-below l (t .1) (p .1) (q .1))
 
-kind-good : (k : Kind) → kindIn (good k) ≡ k
+pub kind-good : (k : Kind) → kindIn (good k) ≡ k
 kind-good D = refl
 kind-good C = refl
 kind-good S = refl

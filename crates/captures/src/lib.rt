@@ -57,7 +57,7 @@ fn body_of_kind(file: &[u8], at: usize, kind: usize) -> Body
     }
 }
 
-// Sends the vectors of the record at a place of a capture, in the old edition, as all records are.
+// Sends the vectors of the record at a place of a capture, in the old edition, as every record is.
 pub fn send_record(file: &[u8], at: usize, state: u64, line: &mut [u8]) -> RecordSent
     ensures { λ r. ⌜ SendsRecord (now (file .entry)) at state (now (line .entry)) r (now (line .exit)) ⌝ }
 {

@@ -17,6 +17,7 @@ use Rattle.block.specs.Rows.{fieldAt, formats}
 use Rattle.block.proofs.Tests.{both-left, both-right, all, every, is-true}
 use Rattle.block.proofs.Formats.{flag-at, sound, all-sound, sound-has, of-format}
 use Rattle.block.proofs.Reading.{vector-flag, read-at, plain-kind}
+use Rattle.block.proofs.Classes.{kind-good}
 use Rattle.editions.specs.Before.{classBefore, carrierAmong, carrierBefore, kindBefore}
 
 -- ---- a block that was received
@@ -92,14 +93,6 @@ isLow LI = true
 other : (k : Kind) → T (not (isLow k)) → k ≡ LI → ⊥
 other k t e = subst (λ (z : Kind). T (not (isLow z))) e t
 
-kind-good : (k : Kind) → T (not (isLow k)) → T (not (isLow (kindIn (good k))))
-kind-good D t = tt
-kind-good C t = tt
-kind-good S t = tt
-kind-good T′ t = tt
-kind-good E t = tt
-kind-good LI t = t
-
 pub block-kind : (h x : ℕ) → kindIn (classBefore h x) ≡ LI → ⊥
 unfolding classBefore
 block-kind h x = other _ (go (not (eqb h 1 || eqb h 2)) (eqb h 1 && not (some (λ f. eqb (f .type) (x % 2 ^ 8)) controlBlocks)) (says Old 256 (formatOf h x) x) (says Old 512 (formatOf h x) x))
@@ -113,7 +106,7 @@ block-kind h x = other _ (go (not (eqb h 1 || eqb h 2)) (eqb h 1 && not (some (�
     go false true c d = tt
     go false false true d = tt
     go false false false true = tt
-    go false false false false = kind-good (formatOf h x .kind) of-kind
+    go false false false false = subst (λ (k : Kind). T (not (isLow k))) (sym (kind-good (formatOf h x .kind))) of-kind
 
 pub vector-kind : (v : List ℕ) → kindBefore v ≡ LI → ⊥
 unfolding carrierBefore

@@ -14,10 +14,15 @@ use Rattle.block.specs.Block.{editionOf}
 use Rattle.receiving.specs.Answer.{ReceiveAnswer, received, receiveChecks, summaryOf, receiveAnswer, receiveRoom}
 use Rattle.receiving.specs.Answer as Answer
 use Rattle.receiving.specs.declared.Summary.{Summary}
+use Rattle.receiving.specs.declared.Received.{Received}
 use Rattle.counters.specs.Counters.{updated, countersAfter}
 use Rattle.counters.specs.declared.Counters.{Counters}
 use Rattle.holzmotte.specs.Boundary.{resultOf, after, wordBytes, flagWord, tooShort, summaryWith, countersIn, countersWith, receiveLength, shortSlice, receiveVerdict, receiveWords, receiveResult, receiveVectors, receiveSummary, receiveCounters, ReceivesThroughC}
 use Rattle.holzmotte.proofs.Laws.{first-after, shortOf, summary-long}
+
+-- what a match finds of an answer has its values
+pub as-found : (w : ReceiveAnswer) {x y : Received} → x ≡ y → Answer.answerOf x ≡ w → Answer.answerOf y ≡ w
+as-found w e q = ap Answer.answerOf (sym e) ∙ q
 
 -- an answer tells the verdict
 abbrev pub verdictOf : ReceiveAnswer → Verdict

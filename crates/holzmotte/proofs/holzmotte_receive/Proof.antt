@@ -2,8 +2,8 @@
 use mathlib.Core.Path.{sym, ap, _∙_}
 use lib.ListN.{length}
 use denote.Ref.{now}
-use Rattle.receiving.specs.Answer.{answerOf}
-use Rattle.holzmotte.proofs.Receives.{small, shortly, long-summary, long-counters, refused-so, received-so}
+use Rattle.receiving.specs.Answer.{receiveAnswer}
+use Rattle.holzmotte.proofs.Receives.{as-found, small, shortly, long-summary, long-counters, refused-so, received-so}
 use borrow.Author.Needs.{needs}
 use Rattle.holzmotte.proofs.holzmotte_receive.Statement.{statement}
 use Rattle.holzmotte.proofs.holzmotte_receive.Tie as tie
@@ -59,7 +59,7 @@ clear-requires-2 c κs = search needs
 refusal-requires : tie.Need-refusal-requires
 refusal-requires c κs =
     let a = c .before .before .before .before .before .before .before .before .before .before .before .before .before .before .before .before .before .before .before .before .args in
-    small (a .edition) (now (a .line)) (length (now (a .vectors))) _ _ (sym (ap answerOf (c .before .before .before .before .before .answer2 .given .1)) ∙ c .before .before .before .before .before .before .before .before .before .before .receive-by-value .ensures .0 .0)
+    small (a .edition) (now (a .line)) (length (now (a .vectors))) _ _ (as-found (receiveAnswer (a .edition) (now (a .line)) (length (now (a .vectors)))) (c .before .before .before .before .before .answer2 .given .1) (c .before .before .before .before .before .before .before .before .before .before .receive-by-value .ensures .0 .0))
 
 same-length-2 : tie.Need-same-length-2
 same-length-2 c = search needs
@@ -74,7 +74,7 @@ returns-2 : tie.Need-returns-2
 returns-2 c =
     let a = c .before .before .before .before .before .before .before .before .before .before .before .before .before .before .before .before .before .before .before .before .before .before .before .before .args in
     received-so (a .edition) (now (a .line)) (now (a .vectors)) (now (a .summary)) (now (a .counters)) (sym (c .before .before .before .before .before .before .before .before .before .before .before .before .before .before .before .before .before .before .before .short-slice .ensures) ∙ c .before .before .before .before .before .before .before .before .before .before .before .before .before .before .before .before .before .before .if1 .left) (c .before .before .before .before .before .before .before .before .before .answer .given .0 .0) (c .before .before .before .before .before .before .before .before .before .before .before .before .before .before .before .load-counters .result) (c .before .before .before .before .before .before .before .before .before .before .before .before .before .before .receive-by-value .result .counters) _ _ _
-    (sym (ap answerOf (c .before .before .before .before .before .before .before .before .before .answer .given .1)) ∙ c .before .before .before .before .before .before .before .before .before .before .before .before .before .before .receive-by-value .ensures .0 .0) (c .before .before .before .before .before .before .before .before .before .before .before .before .before .before .receive-by-value .ensures .0 .1) (c .before .before .before .before .before .before .put-summary .ensures)
+    (as-found (receiveAnswer (a .edition) (now (a .line)) (length (now (a .vectors)))) (c .before .before .before .before .before .before .before .before .before .answer .given .1) (c .before .before .before .before .before .before .before .before .before .before .before .before .before .before .receive-by-value .ensures .0 .0)) (c .before .before .before .before .before .before .before .before .before .before .before .before .before .before .receive-by-value .ensures .0 .1) (c .before .before .before .before .before .before .put-summary .ensures)
     (c .before .before .before .before .before .before .before .before .before .before .before .before .before .before .before .load-counters .ensures) (c .before .before .before .before .before .before .before .before .before .before .before .before .before .before .receive-by-value .ensures .1) (c .before .before .store-counters .ensures)
 
 same-length-5 : tie.Need-same-length-5
@@ -91,7 +91,7 @@ returns-3 c =
     let a = c .before .before .before .before .before .before .before .before .before .before .before .before .before .before .before .before .before .before .before .before .before .args in
     let t =
     refused-so (a .edition) (now (a .line)) (now (a .vectors)) (now (a .summary)) (now (a .counters)) (sym (c .before .before .before .before .before .before .before .before .before .before .before .before .before .before .before .before .short-slice .ensures) ∙ c .before .before .before .before .before .before .before .before .before .before .before .before .before .before .before .if1 .left) _ _ _
-    (sym (ap answerOf (c .before .before .before .before .before .before .answer2 .given .1)) ∙ c .before .before .before .before .before .before .before .before .before .before .before .receive-by-value .ensures .0 .0) (c .before .before .before .before .before .before .before .before .before .before .before .receive-by-value .ensures .0 .1) in
+    (as-found (receiveAnswer (a .edition) (now (a .line)) (length (now (a .vectors)))) (c .before .before .before .before .before .before .answer2 .given .1) (c .before .before .before .before .before .before .before .before .before .before .before .receive-by-value .ensures .0 .0)) (c .before .before .before .before .before .before .before .before .before .before .before .receive-by-value .ensures .0 .1) in
     (c .refusal .ensures ∙ t .0, t .1, c .before .before .before .clear2 .ensures ∙ t .2, t .3)
 
 pub holzmotte-receive-spec : {M : Type 1} → statement M
