@@ -36,20 +36,13 @@ in-the-newer : All New newer
 unfolding newer payload classOf kindFor
 in-the-newer = (refl, (refl, (refl, (refl, (refl, (refl, (refl, tt)))))))
 
--- the same blocks
-older : List Example
-older =
-    says 1 lowPower (Class.Bad ControlCode)
-    ∷ says 1 (0x1e ∷ 0x06 ∷ []) (Class.Bad ControlCode)
-    ∷ says 1 (0x1e ∷ 0x06 ∷ 0x83 ∷ 0xc1 ∷ 0x60 ∷ 0x30 ∷ 0x18 ∷ []) (Class.Bad ControlCode)
-    ∷ says 1 (0x1e ∷ 0x06 ∷ 0x0f ∷ []) (Class.Bad ControlCode)
-    ∷ says 1 (0x4b ∷ 0 ∷ 0 ∷ 0 ∷ 0x60 ∷ 0x30 ∷ 0x18 ∷ 0x0c ∷ []) (Class.Bad ControlCode)
-    ∷ says 1 (0x33 ∷ 0x06 ∷ 0x83 ∷ 0xc1 ∷ []) (Class.Bad ControlCode)
-    ∷ says 1 (0x87 ∷ 0 ∷ 0x83 ∷ 0xc1 ∷ 0x60 ∷ 0x30 ∷ 0x18 ∷ 0x0c ∷ []) (Class.Bad ControlCode)
-    ∷ []
+-- in the old edition each of them is bad by a control code
+AllBad : List Example → Type 0
+AllBad [] = Unit
+AllBad (says header bytes class ∷ es) = (classOf Old header (payload bytes) ≡ Class.Bad ControlCode) × AllBad es
 
-in-the-old : All Old older
-unfolding older payload classOf kindFor
+in-the-old : AllBad newer
+unfolding AllBad newer payload classOf kindFor
 in-the-old = (refl, (refl, (refl, (refl, (refl, (refl, (refl, tt)))))))
 
 -- and the vector to be sent
