@@ -112,8 +112,8 @@ static inline const char *holzmotte_refusal_text(int number)
  *
  * What the new edition changes, and nothing else:
  *   - The control character 06, with code 06, is valid wherever one may stand.
- *   - HOLZMOTTE_LOW_POWER_IDLE_VECTOR, eight 06, is of a kind of its own, LI. Every other vector is of the kind that it would have with an
- *     idle for each 06.
+ *   - HOLZMOTTE_LOW_POWER_IDLE_VECTOR, eight of them, is of a kind of its own, LI. Every other vector is of the kind that it would have
+ *     with an idle in place of each control character 06.
  *   - Both diagrams have a state LI, number 5. Kind LI leads to it from C, T, E and LI, and to E from INIT and D. From LI, kind C (such as
  *     idles and ordered sets) leads to C, and every kind but LI and C to E. State LI sends the vector's own block and answers the decoded
  *     one. So where nothing is replaced, low power idle neither begins a list nor stands inside a frame, and a vector of kind C stands

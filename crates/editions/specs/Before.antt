@@ -137,7 +137,7 @@ testedBefore t =
       vector = decoded Old (t .header) (plain t);
     }
 
--- "only if the next block is S or C", which "counts as E if testing it leaves the receiver not locked or high"; 6/13: a missing one counts as C
+-- "T to T if the next block is S or C", which "counts as E if testing it leaves the receiver not locked or high"; 6/13: a missing one counts as C
 abbrev pub letsEndBefore : Tested → Bool
 letsEndBefore t = t .on && (isS (kindIn (t .class)) || isC (kindIn (t .class)))
 
