@@ -3,6 +3,7 @@ pub mod Formats
 pub mod Reading
 pub mod Telling
 pub mod Classes
+pub mod OldKinds
 pub mod Sending
 pub mod Carried
 pub mod Near

@@ -2,7 +2,7 @@
 use Prim.Native.Nat.{ℕ, _+_}
 use mathlib.Core.Path.{_≡_}
 use native.Mathlib.Omega.{arith}
-use Rattle.receiving.specs.Counted.{plus, plusHanded}
+use Rattle.receiving.specs.Parts.{plus, plusHanded}
 use Rattle.receiving.specs.declared.Counts.{Counts}
 use Rattle.receiving.specs.declared.Handed.{Handed}
 use Rattle.counters.specs.Counters.{becomes, updated}

@@ -40,7 +40,7 @@ pub fn kind_in(c: Class) -> Kind
 }
 
 // The class of a block of this kind that is not bad.
-fn good_class(k: Kind) -> Class
+pub fn good_class(k: Kind) -> Class
     ensures { λ r. ⌜ r ≡ good k ⌝ }
 {
     match k {

@@ -13,8 +13,9 @@ use Rattle.sending.specs.Send.{sentLine}
 use Rattle.sending.specs.Answer as Sending
 use Rattle.receiving.specs.Receive.{receivedVectors}
 use Rattle.receiving.specs.Answer as Receiving
-use Rattle.holzmotte.specs.Boundary.{resultOf, after, wordBytes, tooShort, summaryWith, countersIn, countersWith, shortSlice, sendVerdict, sendWords, sendResult, sendLine, sendSummary, receiveLength, receiveVerdict, receiveWords, receiveResult, receiveVectors, receiveSummary, receiveCounters}
-use Rattle.holzmotte.proofs.Laws.{first-after, summary-long}
+use Rattle.slices.specs.Slices.{resultOf, after, wordBytes, tooShort, summaryWith, countersIn, countersWith, shortSlice, receiveLength, receiveWords}
+use Rattle.holzmotte.specs.Boundary.{sendVerdict, sendWords, sendResult, sendLine, sendSummary, receiveVerdict, receiveResult, receiveVectors, receiveSummary, receiveCounters}
+use Rattle.slices.proofs.Laws.{first-after, summary-long}
 use Rattle.demands.specs.ThroughC.{zeroed, Demand1OfSendThroughC, Demand1OfReceiveThroughC}
 use Rattle.demands.proofs.Demand1.{outcome}
 

@@ -12,23 +12,24 @@ use Rattle.sending.specs.Answer as Sending
 use Rattle.receiving.specs.Receive.{receivedVectors}
 use Rattle.receiving.specs.Answer as Receiving
 use Rattle.counters.specs.Counters.{updated}
+use Rattle.slices.specs.Slices.{after, wordBytes, tooShort, countersIn, countersWith, receiveLength, shortSlice, receiveWords}
 use Rattle.holzmotte.specs.Boundary as Boundary
 use Rattle.demands.specs.Demand1.{Outcome}
 
 -- the summary of a refusal: zeros for its words; one too short for them stays unchanged
 abbrev pub zeroed : (words : ℕ) (summary : List ℕ) → List ℕ
-zeroed words summary = cond (Boundary.tooShort 8 words (length summary)) summary (replicate (8 * words) 0 ++ drop (8 * words) summary)
+zeroed words summary = cond (tooShort 8 words (length summary)) summary (replicate (8 * words) 0 ++ drop (8 * words) summary)
 
 -- sending
 abbrev pub Demand1OfSendThroughC : Type 0
 Demand1OfSendThroughC =
     (edition : ℕ) (bytes : List ℕ) (start : ℕ) (room summary : List ℕ) (r : ℕ) (room′ summary′ : List ℕ)
     → Boundary.SendsThroughC edition bytes start room summary r room′ summary′
-    → Outcome {A = ℕ × List ℕ × List ℕ} (Boundary.after 4 (check 4 (Boundary.tooShort 8 3 (length summary))) (Sending.sendChecks edition bytes start (length room)))
+    → Outcome {A = ℕ × List ℕ × List ℕ} (after 4 (check 4 (tooShort 8 3 (length summary))) (Sending.sendChecks edition bytes start (length room)))
     (r, room′, summary′) (
       0,
       sentLine (editionOf edition) bytes start ++ drop (length (sentLine (editionOf edition) bytes start)) room,
-      Boundary.wordBytes 8 (Boundary.sendWords (Sending.sentFor (editionOf edition) bytes start)) ++ drop 24 summary,
+      wordBytes 8 (Boundary.sendWords (Sending.sentFor (editionOf edition) bytes start)) ++ drop 24 summary,
     )
     (λ number place. (number + 256 * place, room, zeroed 3 summary))
 
@@ -38,11 +39,11 @@ Demand1OfReceiveThroughC =
     (edition : ℕ) (line room summary counters : List ℕ) (r : ℕ) (room′ summary′ counters′ : List ℕ)
     → Boundary.ReceivesThroughC edition line room summary counters r room′ summary′ counters′
     → Outcome {A = ℕ × List ℕ × List ℕ × List ℕ}
-    (Boundary.after 2 (check 4 (Boundary.shortSlice (length summary) (length counters))) (Receiving.receiveChecks edition (length line) (length room)))
+    (after 2 (check 4 (shortSlice (length summary) (length counters))) (Receiving.receiveChecks edition (length line) (length room)))
     (r, room′, summary′, counters′) (
       0,
       receivedVectors (editionOf edition) line ++ drop (length (receivedVectors (editionOf edition) line)) room,
-      Boundary.wordBytes 8 (Boundary.receiveWords (Receiving.received (Receiving.summaryOf (editionOf edition) line))) ++ drop (8 * Boundary.receiveLength) summary,
-      Boundary.countersWith (updated (Boundary.countersIn counters) (Receiving.summaryOf (editionOf edition) line .counts) (Receiving.summaryOf (editionOf edition) line .handed)) counters,
+      wordBytes 8 (receiveWords (Receiving.received (Receiving.summaryOf (editionOf edition) line))) ++ drop (8 * receiveLength) summary,
+      countersWith (updated (countersIn counters) (Receiving.summaryOf (editionOf edition) line .counts) (Receiving.summaryOf (editionOf edition) line .handed)) counters,
     )
-    (λ number place. (number + 256 * place, room, zeroed Boundary.receiveLength summary, counters))
+    (λ number place. (number + 256 * place, room, zeroed receiveLength summary, counters))

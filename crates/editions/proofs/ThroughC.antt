@@ -11,7 +11,8 @@ use Rattle.receiving.specs.Answer as Receiving
 use Rattle.receiving.specs.Answer.{receiveChecks}
 use Rattle.receiving.specs.declared.Summary.{Summary}
 use Rattle.counters.specs.Counters.{updated}
-use Rattle.holzmotte.specs.Boundary.{resultOf, summaryWith, sendVerdict, sendWords, sendResult, sendLine, sendSummary, countersIn, countersWith, receiveLength, receiveVerdict, receiveWords, receiveResult, receiveVectors, receiveSummary, receiveCounters}
+use Rattle.slices.specs.Slices.{resultOf, summaryWith, countersIn, countersWith, receiveLength, receiveWords}
+use Rattle.holzmotte.specs.Boundary.{sendVerdict, sendWords, sendResult, sendLine, sendSummary, receiveVerdict, receiveResult, receiveVectors, receiveSummary, receiveCounters}
 use Rattle.editions.specs.ThroughC.{sendVerdictBefore, SendingUnchangedThroughC, receiveVerdictBefore, ReceivingUnchangedThroughC}
 use Rattle.editions.proofs.Sending.{sent-same}
 use Rattle.editions.proofs.Sending as Sending′

@@ -8,7 +8,8 @@ use Rattle.refusals.specs.First.{check, Verdict, first, byVerdict}
 use Rattle.sending.specs.Answer as Sending
 use Rattle.receiving.specs.Answer as Receiving
 use Rattle.counters.specs.Counters.{updated}
-use Rattle.holzmotte.specs.Boundary.{resultOf, after, tooShort, summaryWith, sendWords, SendsThroughC, countersIn, countersWith, receiveLength, shortSlice, receiveWords, ReceivesThroughC}
+use Rattle.slices.specs.Slices.{resultOf, after, tooShort, summaryWith, countersIn, countersWith, receiveLength, shortSlice, receiveWords}
+use Rattle.holzmotte.specs.Boundary.{sendWords, SendsThroughC, ReceivesThroughC}
 use Rattle.editions.specs.Before.{sendChecksBefore, sentBefore, sendRoomBefore, receiveChecksBefore, summaryBefore, receiveRoomBefore}
 
 -- ---- `holzmotte_send` in edition 0 was lent `room` and `summary`, returned `r` and left `room′` and `summary′`

@@ -1,5 +1,3 @@
-pub mod Laws
 pub mod Sends
 pub mod Receives
-pub mod Totals
 pub mod Unique

@@ -17,8 +17,9 @@ use Rattle.receiving.specs.declared.Summary.{Summary}
 use Rattle.receiving.specs.declared.Received.{Received}
 use Rattle.counters.specs.Counters.{updated, countersAfter}
 use Rattle.counters.specs.declared.Counters.{Counters}
-use Rattle.holzmotte.specs.Boundary.{resultOf, after, wordBytes, flagWord, tooShort, summaryWith, countersIn, countersWith, receiveLength, shortSlice, receiveVerdict, receiveWords, receiveResult, receiveVectors, receiveSummary, receiveCounters, ReceivesThroughC}
-use Rattle.holzmotte.proofs.Laws.{first-after, shortOf, summary-long}
+use Rattle.slices.specs.Slices.{resultOf, after, wordBytes, flagWord, tooShort, summaryWith, countersIn, countersWith, receiveLength, shortSlice, receiveWords}
+use Rattle.holzmotte.specs.Boundary.{receiveVerdict, receiveResult, receiveVectors, receiveSummary, receiveCounters, ReceivesThroughC}
+use Rattle.slices.proofs.Laws.{first-after, shortOf, summary-long}
 
 -- what a match finds of an answer has its values
 pub as-found : (w : ReceiveAnswer) {x y : Received} → x ≡ y → Answer.answerOf x ≡ w → Answer.answerOf y ≡ w
@@ -54,17 +55,6 @@ shortly-one true a b = refl
 shortly-one false true b = refl
 shortly-one false false true = refl
 shortly-one false false false = refl
-
--- the words, with the flags as they were made
-abbrev words : Summary → (l h a : ℕ) → List ℕ
-words s l h a =
-    s .counts .tested ∷ s .counts .slips ∷ l ∷ h ∷ s .vectors ∷ s .counts .headers ∷ s .counts .types ∷ s .counts .codes ∷ s .counts .sets ∷ a
-    ∷ s .handed .begun ∷ s .handed .replaced ∷ []
-
-pub flagged : (s : Summary) (l h a : ℕ) (rest summary : List ℕ) → l ≡ flagWord (s .locked) → h ≡ flagWord (s .high) → a ≡ flagWord (s .alone)
-    → summary ≡ wordBytes 8 (words s l h a) ++ rest → summary ≡ wordBytes 8 (receiveWords (received s)) ++ rest
-flagged s l h a rest summary e f g put =
-    put ∙ ap₂ (λ (x y : ℕ). wordBytes 8 (words s x y a) ++ rest) e f ∙ ap (λ (z : ℕ). wordBytes 8 (words s (flagWord (s .locked)) (flagWord (s .high)) z) ++ rest) g
 
 module _ (edition : ℕ) where
   verdict-told : (line : List ℕ) (room : ℕ) → verdictOf (receiveAnswer edition line room) ≡ first (receiveChecks edition (length line) room)

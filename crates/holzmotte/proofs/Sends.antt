@@ -12,8 +12,9 @@ use Rattle.block.specs.Block.{highControl}
 use Rattle.sending.specs.Answer.{SendAnswer, sendChecks, sendAnswer, sendRoom}
 use Rattle.sending.specs.Answer as Answer
 use Rattle.sending.proofs.Verdicts.{verdictOf, verdict-told, place-small}
-use Rattle.holzmotte.specs.Boundary.{resultOf, after, wordBytes, tooShort, sendVerdict, sendWords, sendResult, sendLine, sendSummary, SendsThroughC}
-use Rattle.holzmotte.proofs.Laws.{long-first, shortOf, kept, summary-short, summary-long}
+use Rattle.slices.specs.Slices.{resultOf, after, wordBytes, tooShort}
+use Rattle.holzmotte.specs.Boundary.{sendVerdict, sendWords, sendResult, sendLine, sendSummary, SendsThroughC}
+use Rattle.slices.proofs.Laws.{long-first, shortOf, kept, summary-short, summary-long}
 
 -- a summary too short: 13, 1, 2 and 3 come before it, and it before all else
 refuses : (z a b c d e : Bool) (h : ℕ) {A : Type 0} (success before : A)

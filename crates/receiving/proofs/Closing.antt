@@ -1,7 +1,7 @@
 -- A whole line, from a fresh receiver to the vector of the last block. Assumes nothing.
 use Prim.Native.Nat.{ℕ, _+_, _*_, _/_, _≤_}
 use mathlib.Core.Path.{_≡_, sym, ap, ap₂, _∙_}
-use mathlib.Core.Bool.{Bool, true, false, cond}
+use mathlib.Core.Bool.{Bool, true}
 use mathlib.Core.List.{List, _++_, append-assoc}
 use native.Mathlib.Omega.{arith}
 use lib.ListN.{length, take, drop, length-append}
@@ -11,10 +11,10 @@ use Rattle.block.specs.declared.Edition.{Edition}
 use Rattle.diagrams.specs.declared.State.{State}
 use Rattle.diagrams.specs.declared.State.the-variants.{Init}
 use Rattle.receiving.specs.Machine.{Feed, Run, Tested, run}
-use Rattle.receiving.specs.Receive.{judge, isTerminate, judgedAlone, answers, countsOf, handedOf, runOf, judgedOf, vectorsOf, receivedVectors}
+use Rattle.receiving.specs.Receive.{judge, judgedAlone, answers, countsOf, handedOf, runOf, judgedOf, vectorsOf, receivedVectors}
 use Rattle.receiving.specs.Answer.{summaryOf}
-use Rattle.receiving.specs.Loop.{heldIn, feedIn, settle, bytesOf, Settled, Fresh, Ends, written, heldState, heldBytes, heldHanded}
-use Rattle.receiving.specs.Counted.{noneHanded, plusHanded}
+use Rattle.receiving.specs.Parts.{settle, bytesOf, Settled, noneHanded, plusHanded}
+use Rattle.receiving.specs.Loop.{heldIn, feedIn, Fresh, Ends, written, heldBytes, heldHanded, heldAlone}
 use Rattle.receiving.specs.declared.Handed.{Handed}
 use Rattle.receiving.specs.declared.Summary.{Summary}
 use Rattle.receiving.specs.declared.Receiver.{Receiver}
@@ -97,13 +97,10 @@ module _ (ed : Edition) (line room : List ℕ) (r : Receiver) (f : Fresh ed r) (
         ∙ ap (λ (n : ℕ). drop n room) (sym all-length))
 
     -- whether the last block is judged alone
-    alone-is : (s : State) (alone : Bool)
-        → s ≡ heldState (p .receiver .have) (p .receiver .state) (p .receiver .held) true → alone ≡ cond (p .receiver .have) (isTerminate s) false
-        → alone ≡ judgedAlone (judgedOf ed line)
+    alone-is : (alone : Bool) → alone ≡ heldAlone (p .receiver .have) (p .receiver .state) (p .receiver .held) → alone ≡ judgedAlone (judgedOf ed line)
     unfolding heldIn
-    alone-is s alone es ea =
-        ea ∙ ap (λ (z : State). cond (p .receiver .have) (isTerminate z) false) es
-        ∙ alone-held (p .receiver .have) (p .receiver .state) (p .receiver .held)
+    alone-is alone ea =
+        ea ∙ alone-held (p .receiver .have) (p .receiver .state) (p .receiver .held)
         ∙ ap₂ (λ (z : State) (h : List Tested). judgedAlone (judge z h)) (e .state) (e .held)
         ∙ ap (λ (z : Settled). judgedAlone (judge (z .state) (z .held))) settle-is
         ∙ sym (alone-settled Init (runOf ed line .tested))
@@ -121,14 +118,13 @@ module _ (ed : Edition) (line room : List ℕ) (r : Receiver) (f : Fresh ed r) (
         ∙ ap handedOf (sym (settled Init (runOf ed line .tested)))
 
     -- the summary is that of the definition
-    pub summary-is : (s : State) (alone : Bool) (n : Handed)
-        → s ≡ heldState (p .receiver .have) (p .receiver .state) (p .receiver .held) true → alone ≡ cond (p .receiver .have) (isTerminate s) false
+    pub summary-is : (alone : Bool) (n : Handed) → alone ≡ heldAlone (p .receiver .have) (p .receiver .state) (p .receiver .held)
         → n ≡ heldHanded (p .receiver .have) (p .handed) (p .receiver .state) (p .receiver .held) true
         → _≡_ {A = Summary}
         (record { counts = p .counts; locked = p .receiver .link .lock .locked; high = p .receiver .link .rate .high; vectors = p .counts .tested; alone = alone; handed = n })
         (summaryOf ed line)
     unfolding summaryOf countsOf vectorsOf feedIn
-    summary-is s alone n es ea en =
+    summary-is alone n ea en =
         let c : p .counts ≡ countsOf (runOf ed line .tested) = e .counts ∙ ap (λ (z : Run). countsOf (z .tested)) run-is in
         let l : p .receiver .link ≡ runOf ed line .end .link = ap (λ (z : Feed). z .link) (e .feed) ∙ ap (λ (z : Run). z .end .link) run-is in
-        rw (c, l, length-answers, alone-is s alone es ea, handed-is n en)
+        rw (c, l, length-answers, alone-is alone ea, handed-is n en)

@@ -13,6 +13,7 @@ use Rattle.block.specs.Block.{decoded, formatOf, valid, vectorOf, errorVector}
 use Rattle.diagrams.specs.declared.State.{State}
 use Rattle.diagrams.specs.declared.State.the-variants.{Init, Control, Data, Terminate, Error, LowPower}
 use Rattle.receiving.specs.Machine.{Feed, Tested, at, fills, feed, filled, run, testedOf, linkFresh}
+use Rattle.receiving.proofs.Each.{Each, none, more, run-gives}
 use Rattle.receiving.specs.Receive.{stateOf, ends, answerIn, judge, answers, runOf, vectorsOf, receivedVectors}
 
 -- ---- a block takes 66 bits
@@ -53,23 +54,14 @@ length-decoded ed h x = go (valid ed (formatOf h x) x)
     go true = refl
     go false = refl
 
--- blocks whose vectors are ten bytes each
-pub data Tens : List Tested → Type 0 where
-  none : Tens []
-  more : {t : Tested} {ts : List Tested} → length (t .vector) ≡ 10 → Tens ts → Tens (t ∷ ts)
+-- a block whose vector is ten bytes
+abbrev pub Ten : Tested → Type 0
+Ten t = length (t .vector) ≡ 10
 
--- what one bit tests
-tens-bit : (f : Feed) (b : ℕ) (s g : Bool) → f .skip ≡ s → fills f ≡ g → {ts : List Tested} → Tens ts → Tens (filled f b ++ ts)
-unfolding filled testedOf
-tens-bit f b true g es eg {ts} r = rw es r
-tens-bit f b false true es eg {ts} r = rw (es, eg) (more (length-decoded _ _ _) r)
-tens-bit f b false false es eg {ts} r = rw (es, eg) r
-
--- what a run tests
-pub tens-run : (f : Feed) (bits : List ℕ) → Tens (run f bits .tested)
-unfolding run
-tens-run f [] = none
-tens-run f (b ∷ bits) = tens-bit f b (f .skip) (fills f) refl refl (tens-run (feed f b) bits)
+-- and so are those of a run
+pub tens-run : (f : Feed) (bits : List ℕ) → Each Ten (run f bits .tested)
+unfolding testedOf
+tens-run f bits = run-gives (λ l. Unit) Ten (λ l h p q. tt) (λ l h p q. length-decoded (l .edition) h _) f bits tt
 
 -- the answer of a block is ten bytes too
 pub length-answer : (s : State) (v : List ℕ) → length v ≡ 10 → length (answerIn s v) ≡ 10
@@ -82,7 +74,7 @@ length-answer Error v e = refl
 length-answer LowPower v e = e
 
 -- ten bytes for each block
-pub length-vectors : (s : State) {ts : List Tested} → Tens ts → length (flatten (answers s ts)) ≡ 10 * length ts
+pub length-vectors : (s : State) {ts : List Tested} → Each Ten ts → length (flatten (answers s ts)) ≡ 10 * length ts
 unfolding answers judge flatten
 length-vectors s none = refl
 length-vectors s (more {t = t} {ts = ts} e r) =

@@ -16,7 +16,8 @@ use Rattle.diagrams.specs.declared.State.{State}
 use Rattle.diagrams.specs.declared.State.the-variants.{Init, Error}
 use Rattle.receiving.specs.Machine.{Tested}
 use Rattle.receiving.specs.Receive.{howMany, badFor, countsOf, Judged, decodes, errs, begins, replaces, handedOf}
-use Rattle.receiving.specs.Counted.{noCounts, plus, reasoned, counted, Within, noneHanded, plusHanded, handOut, decodedOut, replacedOut, HandedWithin}
+use Rattle.receiving.specs.Parts.{noCounts, plus, noneHanded, plusHanded}
+use Rattle.receiving.specs.Counted.{reasoned, counted, Within, handOut, decodedOut, replacedOut, HandedWithin}
 use Rattle.receiving.specs.declared.Counts.{Counts}
 use Rattle.receiving.specs.declared.Handed.{Handed}
 

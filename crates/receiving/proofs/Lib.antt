@@ -1,4 +1,5 @@
 pub mod Runs
+pub mod Each
 pub mod Steps
 pub mod Reasons
 pub mod Last

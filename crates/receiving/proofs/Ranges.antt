@@ -16,7 +16,7 @@ use Rattle.receiving.specs.Ranges.{InRange}
 use Rattle.receiving.specs.declared.Link.{Link}
 
 -- a header adds at most one invalid
-invalid-le : (v : Bool) → invalidOf v ≤ 1
+pub invalid-le : (v : Bool) → invalidOf v ≤ 1
 unfolding invalidOf
 invalid-le true = omega arith
 invalid-le false = omega arith
@@ -30,7 +30,7 @@ abbrev InRate : Rate → Type 0
 InRate r = (r .blocks < 19531) × (r .invalid ≤ r .blocks)
 
 -- by the test that a value goes by
-cond-both {ℓ} : {X : Type 0} (P : X → Type ℓ) (b : Bool) (x y : X) → (b ≡ true → P x) → (b ≡ false → P y) → P (cond b x y)
+pub cond-both {ℓ} : {X : Type 0} (P : X → Type ℓ) (b : Bool) (x y : X) → (b ≡ true → P x) → (b ≡ false → P y) → P (cond b x y)
 cond-both P true x y p q = p refl
 cond-both P false x y p q = q refl
 

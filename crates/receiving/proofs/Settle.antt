@@ -1,5 +1,5 @@
 -- The vectors of all blocks but the last, the block held, and its bytes in the room. Assumes nothing.
-use Prim.Native.Nat.{ℕ, _+_, _≤_, _<_}
+use Prim.Native.Nat.{ℕ, _+_, _*_, _≤_, _<_}
 use mathlib.Core.Path.{_≡_, refl, sym, ap, ap₂, _∙_}
 use mathlib.Core.Bool.{Bool, true, false, cond}
 use mathlib.Core.List.{List, [], _∷_, _++_, append-assoc, append-nil, flatten}
@@ -12,11 +12,13 @@ use Rattle.decoding.specs.declared.Vector.{Vector}
 use Rattle.diagrams.specs.declared.State.{State}
 use Rattle.receiving.specs.Machine.{Tested}
 use Rattle.receiving.specs.Receive.{letsEnd, ends, stateOf, answerIn, Judged, judge, answer, isTerminate, lastIs, judgedAlone, handedOf}
-use Rattle.receiving.specs.Loop.{testedIn, Settled, settle, bytesOf, heldState, heldBytes, heldHanded}
-use Rattle.receiving.specs.Counted.{plusHanded, handOut, HandedWithin}
+use Rattle.receiving.specs.Parts.{Settled, settle, bytesOf, plusHanded}
+use Rattle.receiving.specs.Loop.{testedIn, heldState, heldBytes, heldHanded}
+use Rattle.receiving.specs.Counted.{handOut, HandedWithin}
 use Rattle.receiving.specs.declared.Held.{Held}
 use Rattle.receiving.specs.declared.Handed.{Handed}
-use Rattle.receiving.proofs.Count.{length-answer}
+use Rattle.receiving.proofs.Each.{Each, none, more}
+use Rattle.receiving.proofs.Count.{Ten, length-answer}
 use Rattle.receiving.proofs.Counted.{hand-more, hand-end, handed-next, handed-wide}
 
 -- ---- bytes put into the room
@@ -152,6 +154,30 @@ settle-append s (t ∷ []) b = refl
 settle-append s (t ∷ u ∷ a) b =
     let s′ = stateOf s t (letsEnd u) in
     ap (λ (z : Settled). record { judged = record { state = s′; block = t } ∷ z .judged; state = z .state; held = z .held }) (settle-append s′ (u ∷ a) b)
+
+-- each block is settled or held
+pub settle-count : (s : State) (ts : List Tested) → length (settle s ts .judged) + length (settle s ts .held) ≡ length ts
+unfolding settle
+settle-count s [] = refl
+settle-count s (t ∷ []) = refl
+settle-count s (t ∷ u ∷ ts) = omega (arith, settle-count (stateOf s t (letsEnd u)) (u ∷ ts))
+
+-- at most one is held
+pub settle-few : (s : State) (ts : List Tested) → length (settle s ts .held) ≤ 1
+unfolding settle
+settle-few s [] = omega arith
+settle-few s (t ∷ []) = omega arith
+settle-few s (t ∷ u ∷ ts) = settle-few (stateOf s t (letsEnd u)) (u ∷ ts)
+
+-- the bytes of what is settled, ten for each block
+pub settle-tens : (s : State) {ts : List Tested} → Each Ten ts → length (bytesOf (settle s ts .judged)) ≡ 10 * length (settle s ts .judged)
+unfolding settle flatten
+settle-tens s none = refl
+settle-tens s (more e none) = refl
+settle-tens s (more {t} {ts = u ∷ us} e (more f r)) =
+    let s′ = stateOf s t (letsEnd u) in
+    length-append (answerIn s′ (t .vector)) (bytesOf (settle s′ (u ∷ us) .judged))
+    ∙ omega (arith, length-answer s′ (t .vector) e, settle-tens s′ (more {t = u} f r))
 
 -- the vector of the block held at the end of the input
 pub last-bytes : (have : Bool) (s : State) (h : Held) → bytesOf (judge s (holding have h)) ≡ heldBytes have s h true

@@ -17,9 +17,10 @@ use Rattle.diagrams.specs.Lock.{slipsOf}
 use Rattle.diagrams.specs.declared.State.{State}
 use Rattle.receiving.specs.Machine.{Feed, Run, Tested, run, linkOf, testedOf, validOf, headerOf, payloadOf}
 use Rattle.receiving.specs.Receive.{letsEnd, countsOf, handedOf}
-use Rattle.receiving.specs.Counted.{noCounts, plus, counted, Within, noneHanded, plusHanded, HandedWithin}
+use Rattle.receiving.specs.Parts.{noCounts, plus, noneHanded, plusHanded, settle, bytesOf}
+use Rattle.receiving.specs.Counted.{counted, Within, HandedWithin}
 use Rattle.receiving.specs.Ranges.{InRange}
-use Rattle.receiving.specs.Loop.{testedIn, heldIn, feedIn, settle, bytesOf, Outcome, outcomeOf, outcome, Under, Turns, Ends, written, heldState, heldBytes, heldHanded}
+use Rattle.receiving.specs.Loop.{testedIn, heldIn, feedIn, Outcome, outcomeOf, outcome, Under, Turns, Ends, written, heldState, heldBytes, heldHanded}
 use Rattle.receiving.specs.declared.Link.{Link}
 use Rattle.receiving.specs.declared.Held.{Held}
 use Rattle.receiving.specs.declared.Counts.{Counts}
@@ -307,6 +308,8 @@ unfolding outcome
 loop-ends line room₀ room r p i over =
     let e = sym (ended line room p over) ∙ i .same in
     record {
+      range = i .under .range;
+      sound = i .under .sound;
       feed = ap (λ (o : Outcome). o .end) e;
       state = ap (λ (o : Outcome). o .state) e;
       held = ap (λ (o : Outcome). o .held) e;

@@ -9,22 +9,6 @@ use Rattle.receiving.specs.Receive.{badFor, Judged, begins, replaces}
 use Rattle.receiving.specs.declared.Counts.{Counts}
 use Rattle.receiving.specs.declared.Handed.{Handed}
 
--- nothing counted yet
-abbrev pub noCounts : Counts
-noCounts = record { tested = 0; slips = 0; headers = 0; types = 0; codes = 0; sets = 0 }
-
--- two counts together
-abbrev pub plus : Counts → Counts → Counts
-plus a b =
-    record {
-      tested = a .tested + b .tested;
-      slips = a .slips + b .slips;
-      headers = a .headers + b .headers;
-      types = a .types + b .types;
-      codes = a .codes + b .codes;
-      sets = a .sets + b .sets;
-    }
-
 -- one more block of this class, as far as the reasons go
 unfoldable pub reasoned : Counts → Class → Counts
 reasoned c k =
@@ -61,12 +45,6 @@ pub record Within (n : ℕ) (c : Counts) : Type 0 where
   pub sets : c .sets ≤ n
 
 -- ---- the same of the vectors handed out
-
-abbrev pub noneHanded : Handed
-noneHanded = record { begun = 0; replaced = 0 }
-
-abbrev pub plusHanded : Handed → Handed → Handed
-plusHanded a b = record { begun = a .begun + b .begun; replaced = a .replaced + b .replaced }
 
 -- one more vector
 unfoldable pub handOut : Handed → Judged → Handed

@@ -1,5 +1,6 @@
 pub mod Machine
 pub mod Receive
+pub mod Parts
 pub mod Answer
 pub mod Reasons
 pub mod Last

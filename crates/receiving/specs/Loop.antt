@@ -1,7 +1,7 @@
 -- A reviewer can skip this file. What the parts of the code do, in the words of Machine and Receive.
 use mathlib.Core.Path.{_≡_}
-use mathlib.Core.Bool.{Bool, cond}
-use mathlib.Core.List.{List, [], _∷_, _++_, map, flatten}
+use mathlib.Core.Bool.{Bool, true, false, cond}
+use mathlib.Core.List.{List, [], _∷_, _++_}
 use Prim.Native.Nat.{ℕ, _*_, _≤_, _<_}
 use lib.ListN.{length, take, drop}
 use Rattle.bits.specs.Bits.{lineBits}
@@ -11,8 +11,9 @@ use Rattle.block.specs.declared.Edition.{Edition}
 use Rattle.diagrams.specs.declared.State.{State}
 use Rattle.diagrams.specs.declared.State.the-variants.{Init}
 use Rattle.receiving.specs.Machine.{Feed, Run, Tested, run, at, linkFresh}
-use Rattle.receiving.specs.Receive.{letsEnd, stateOf, answerIn, Judged, answer, countsOf, handedOf}
-use Rattle.receiving.specs.Counted.{plus, Within, plusHanded, handOut, HandedWithin}
+use Rattle.receiving.specs.Receive.{stateOf, answerIn, isTerminate, countsOf, handedOf}
+use Rattle.receiving.specs.Parts.{settle, bytesOf, plus, plusHanded}
+use Rattle.receiving.specs.Counted.{Within, handOut, HandedWithin}
 use Rattle.receiving.specs.Ranges.{InRange}
 use Rattle.receiving.specs.declared.Held.{Held}
 use Rattle.receiving.specs.declared.Receiver.{Receiver}
@@ -41,27 +42,6 @@ pub record Fresh (ed : Edition) (r : Receiver) : Type 0 where
   pub sound : Sound (r .carried)
   pub state : r .state ≡ Init
   pub held : heldIn r ≡ []
-
--- ---- all blocks but the last in their states; the last is held until the next is tested
-
--- these blocks, the diagram's state, and the block held, if there is one
-pub record Settled : Type 0 where
-  pub judged : List Judged
-  pub state : State
-  pub held : List Tested
-
--- from a state, over a list of blocks
-unfoldable pub settle : State → List Tested → Settled
-settle s [] = record { judged = []; state = s; held = [] }
-settle s (t ∷ []) = record { judged = []; state = s; held = t ∷ [] }
-settle s (t ∷ u ∷ ts) =
-    let s′ = stateOf s t (letsEnd u) in
-    let rest = settle s′ (u ∷ ts) in
-    record { judged = record { state = s′; block = t } ∷ rest .judged; state = rest .state; held = rest .held }
-
--- the bytes of the vectors of blocks in their states
-abbrev pub bytesOf : List Judged → List ℕ
-bytesOf js = flatten (map answer js)
 
 -- ---- what a receiver comes to at the end of the line, from where it is
 
@@ -114,6 +94,8 @@ pub record Turns (line room room′ : List ℕ) (p p′ : Progress) : Type 0 whe
 
 -- the end of the line: everything is settled but the block that is held
 pub record Ends (line room room′ : List ℕ) (r : Receiver) (p : Progress) : Type 0 where
+  pub range : InRange (p .receiver .link)
+  pub sound : Sound (p .receiver .carried)
   pub feed : feedIn (p .receiver) ≡ run (feedIn r) (lineBits line) .end
   pub state : p .receiver .state ≡ settle (r .state) (heldIn r ++ run (feedIn r) (lineBits line) .tested) .state
   pub held : heldIn (p .receiver) ≡ settle (r .state) (heldIn r ++ run (feedIn r) (lineBits line) .tested) .held
@@ -142,3 +124,7 @@ heldBytes have s h ends = cond have (answerIn (stateOf s (testedIn h) ends) (vec
 -- the counts of vectors with it
 abbrev pub heldHanded : Bool → Handed → State → Held → Bool → Handed
 heldHanded have n s h ends = cond have (handOut n (record { state = stateOf s (testedIn h) ends; block = testedIn h })) n
+
+-- at the end of the input: whether it is judged without its successor
+abbrev pub heldAlone : Bool → State → Held → Bool
+heldAlone have s h = cond have (isTerminate (heldState have s h true)) false

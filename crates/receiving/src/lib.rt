@@ -11,14 +11,17 @@ use diagrams::Rate;
 use diagrams::State;
 use refusals::Refusal;
 ghost use mathlib.Core.Path.{_≡_};
-ghost use Prim.Native.Nat.{_*_, _/_, _≤_, _<_};
-ghost use lib.ListN.{length};
+ghost use mathlib.Core.Bool.{true};
+ghost use mathlib.Core.List.{_++_};
+ghost use Prim.Native.Nat.{_+_, _*_, _/_, _≤_, _<_};
+ghost use lib.ListN.{length, take, drop};
 ghost use Rattle.block.specs.Block.{editionOf};
 ghost use Rattle.tables.specs.Tables.{tables, types};
 ghost use Rattle.carrying.specs.Carrying.{Sound};
 ghost use Rattle.receiving.specs.Answer.{Receives};
 ghost use Rattle.receiving.specs.Ranges.{InRange};
-ghost use Rattle.receiving.specs.Loop.{Under, Turns, Ends, Fresh, written};
+ghost use Rattle.receiving.specs.Counted.{HandedWithin};
+ghost use Rattle.receiving.specs.Loop.{Under, Turns, Ends, Fresh, written, heldBytes, heldHanded, heldAlone};
 
 // testing.rt: one tested block
 mod testing;
@@ -95,6 +98,12 @@ pub struct Progress {
     pub at: usize,
     pub counts: Counts,
     pub handed: Handed,
+}
+
+// What the vector of the last block adds: the counts of vectors with it, and whether it was judged without its successor.
+pub struct LastVector {
+    pub handed: Handed,
+    pub alone: bool,
 }
 
 // One turn: a whole block of the line, or one bit. A block that is full is tested, and the one held before it is answered.
@@ -189,6 +198,35 @@ fn receive_bits(
     p
 }
 
+// A receiver over one more part of a line: the vectors go to the start of the room, but for that of the last block, which is held.
+pub fn receive_more(line: &[u8], room: &mut [u8], start: Receiver) -> Progress
+    requires { ⌜ (length (now line) ≤ 825000) × InRange (start .link) × Sound (start .carried) × (length (written start (now line)) ≤ length (now room)) ⌝ }
+    ensures { λ p. ⌜ Ends (now (line .entry)) (now (room .entry)) (now (room .exit)) start p ⌝ }
+{
+    let link = start.link;
+    let edition = link.edition;
+    let t = tables::block_tables(edition);
+    let y = tables::type_table();
+    receive_bits(&t, &y, line, room, start)
+}
+
+// The end of the input: the vector of the block that is held, if there is one, goes to the room.
+pub fn receive_last(room: &mut [u8], at: usize, r: Receiver, handed: Handed) -> LastVector
+    requires { ⌜ (at + length (heldBytes (r .have) (r .state) (r .held) true) ≤ length (now room)) × HandedWithin 6600000 handed ⌝ }
+    ensures { λ z. ⌜ (now (room .exit) ≡ take at (now (room .entry)) ++ (heldBytes (r .have) (r .state) (r .held) true ++ drop (at + length (heldBytes (r .have) (r .state) (r .held) true)) (now (room .entry)))) × (z .handed ≡ heldHanded (r .have) handed (r .state) (r .held) true) × (z .alone ≡ heldAlone (r .have) (r .state) (r .held)) ⌝ }
+{
+    let state = r.state;
+    let held = r.held;
+    let have = r.have;
+    let last = answering::settle_held(room, at, handed, have, state, held, true);
+    let state = last.state;
+    let handed = last.handed;
+    LastVector {
+        handed: handed,
+        alone: answering::judged_alone(have, state),
+    }
+}
+
 // A receiver of an edition before the first bit.
 fn fresh(edition: Edition) -> Receiver
     ensures { λ r. ⌜ Fresh edition r ⌝ }
@@ -226,7 +264,7 @@ fn fresh(edition: Edition) -> Receiver
     }
 }
 
-// Receiving in a known edition with its lent tables, those of the crate tables.
+// Receiving in a known edition with its lent tables, those of the crate tables: a fresh receiver, one part of a line and the end.
 fn receive_with(
     t: &[u16; 3170],
     y: &[u8; 256],
@@ -245,24 +283,18 @@ fn receive_with(
     }
     let p = receive_bits(t, y, line, room, fresh(tables::edition_of(edition)));
     let r = p.receiver;
-    let at = p.at;
     let link = r.link;
     let lock = link.lock;
     let rate = link.rate;
-    let state = r.state;
-    let held = r.held;
-    let have = r.have;
-    let last = answering::settle_held(room, at, p.handed, have, state, held, true);
-    let state = last.state;
-    let handed = last.handed;
-    let alone = answering::judged_alone(have, state);
+    let last = receive_last(room, p.at, r, p.handed);
     let counts = p.counts;
+    let handed = last.handed;
     Received::Done(Summary {
         counts: counts,
         locked: lock.locked,
         high: rate.high,
         vectors: counts.tested,
-        alone: alone,
+        alone: last.alone,
         handed: handed,
     })
 }

@@ -8,7 +8,7 @@ use lib.Dec.{eqb, lit<}
 use Rattle.refusals.specs.Number.{numberOf}
 use Rattle.refusals.specs.First.{Check, Verdict, accepted, refused, first, byVerdict}
 use Rattle.refusals.specs.declared.Refusal.{Refusal}
-use Rattle.refusals.specs.declared.Refusal.the-variants.{TooMuch, NotGroups, StartState, Room, ControlByte, Cut, LongBody, RecordKind, UnknownEdition}
+use Rattle.refusals.specs.declared.Refusal.the-variants.{TooMuch, NotGroups, StartState, Room, ControlByte, Cut, LongBody, RecordKind, Closed, BadState, UnknownEdition}
 
 -- No two refusals have one number: the number tells the refusal.
 refusalOf : ℕ → Refusal
@@ -20,7 +20,9 @@ refusalOf n =
     (cond (eqb n 5) ControlByte
     (cond (eqb n 6) Cut
     (cond (eqb n 7) LongBody
-    (cond (eqb n 8) RecordKind UnknownEdition)))))))
+    (cond (eqb n 8) RecordKind
+    (cond (eqb n 9) Closed
+    (cond (eqb n 10) BadState UnknownEdition)))))))))
 
 back : (r : Refusal) → refusalOf (numberOf r) ≡ r
 unfolding refusalOf
@@ -32,6 +34,8 @@ back ControlByte = refl
 back Cut = refl
 back LongBody = refl
 back RecordKind = refl
+back Closed = refl
+back BadState = refl
 back UnknownEdition = refl
 
 pub number-injective : (a b : Refusal) → numberOf a ≡ numberOf b → a ≡ b
@@ -47,6 +51,8 @@ number-positive ControlByte = lit< tt
 number-positive Cut = lit< tt
 number-positive LongBody = lit< tt
 number-positive RecordKind = lit< tt
+number-positive Closed = lit< tt
+number-positive BadState = lit< tt
 number-positive UnknownEdition = lit< tt
 
 -- Of an accepted list no row applies.

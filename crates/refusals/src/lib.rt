@@ -20,6 +20,10 @@ pub enum Refusal {
     LongBody,
     // a record's kind that is unknown, or in a program not its own
     RecordKind,
+    // a call after the closing one
+    Closed,
+    // a state with numbers that no line leads to
+    BadState,
     // an edition that is neither old nor new
     UnknownEdition,
 }
@@ -37,6 +41,8 @@ pub fn number(r: Refusal) -> u64
         Refusal::Cut => 6,
         Refusal::LongBody => 7,
         Refusal::RecordKind => 8,
+        Refusal::Closed => 9,
+        Refusal::BadState => 10,
         Refusal::UnknownEdition => 13,
     }
 }

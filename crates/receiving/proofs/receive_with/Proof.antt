@@ -39,34 +39,31 @@ receive-bits-requires c κs =
     let args = c .before .before .before .before .before .before .before .args in
     ((pre .0 ∙ ap tables (sym (fresh-edition _ (c .fresh .result) (c .fresh .ensures) ∙ c .before .edition-of .ensures)), pre .1), c .before .before .before .before .if1 .left, c .fresh .ensures .range, c .fresh .ensures .sound, written-fits (c .before .edition-of .result) (now (args .line)) (now (args .room)) (c .fresh .result) (c .fresh .ensures) (c .before .before .before .if2 .left))
 
-settle-held-requires : tie.Need-settle-held-requires
-settle-held-requires c κs =
-    let args = c .before .before .before .before .before .before .before .before .before .before .before .before .before .before .before .before .args in
-    let if1 = c .before .before .before .before .before .before .before .before .before .before .before .before .before .if1 in
-    let if2 = c .before .before .before .before .before .before .before .before .before .before .before .before .if2 in
-    let fresh = c .before .before .before .before .before .before .before .before .before .fresh in
-    let receive-bits = c .before .before .before .before .before .before .before .before .receive-bits in (
-      last-fits (c .before .before .before .before .before .before .before .before .before .before .edition-of .result) (now (args .line)) (now (args .room)) (fresh .result) (fresh .ensures) (if2 .left)
+receive-last-requires : tie.Need-receive-last-requires
+receive-last-requires c κs =
+    let args = c .before .before .before .before .before .before .before .before .before .before .before .before .before .before .before .args in
+    let if1 = c .before .before .before .before .before .before .before .before .before .before .before .before .if1 in
+    let if2 = c .before .before .before .before .before .before .before .before .before .before .before .if2 in
+    let fresh = c .before .before .before .before .before .before .before .before .fresh in
+    let receive-bits = c .before .before .before .before .before .before .before .receive-bits in (
+      last-fits (c .before .before .before .before .before .before .before .before .before .edition-of .result) (now (args .line)) (now (args .room)) (fresh .result) (fresh .ensures) (if2 .left)
           (receive-bits .last .1 .1 .1 .0) (receive-bits .result) (receive-bits .ensures) _,
       handed-wide (receive-bits .result .handed) _ 6600000 (receive-bits .ensures .few) (omega (arith, if1 .left)),
     )
 
-judged-alone-requires : tie.Need-judged-alone-requires
-judged-alone-requires c κs = search needs
-
 same-length : tie.Need-same-length
-same-length c = c .before .before .before .before .before .settle-held .kept .0 ∙ c .before .before .before .before .before .before .before .before .before .before .before .before .before .before .receive-bits .ensures .len
+same-length c = c .before .before .before .before .receive-last .kept .0 ∙ c .before .before .before .before .before .before .before .before .before .before .before .before .receive-bits .ensures .len
 
 returns-3 : tie.Need-returns-3
 returns-3 c =
-    let args = c .before .before .before .before .before .before .before .before .before .before .before .before .before .before .before .before .before .before .before .before .before .before .args in
-    let if1 = c .before .before .before .before .before .before .before .before .before .before .before .before .before .before .before .before .before .before .before .if1 in
-    let if2 = c .before .before .before .before .before .before .before .before .before .before .before .before .before .before .before .before .before .before .if2 in
-    let fresh = c .before .before .before .before .before .before .before .before .before .before .before .before .before .before .before .fresh in
-    let receive-bits = c .before .before .before .before .before .before .before .before .before .before .before .before .before .before .receive-bits in
-    let settle-held = c .before .before .before .before .before .settle-held in
-    let v = passes (args .edition) (now (args .line)) (now (args .room)) (c .before .before .before .before .before .before .before .before .before .before .before .before .before .before .before .before .before .before .before .before .before .before .pre .2) (if1 .left) (if2 .left) in
-    (ap received (summary-is (c .before .before .before .before .before .before .before .before .before .before .before .before .before .before .before .before .edition-of .result) (now (args .line)) (now (args .room)) (fresh .result) (fresh .ensures) (if2 .left) (receive-bits .last .1 .1 .1 .0) (receive-bits .result) (receive-bits .ensures) (settle-held .result .state) (c .before .judged-alone .result) (settle-held .result .handed) (settle-held .ensures .0) (c .before .judged-alone .ensures) (settle-held .ensures .3)) ∙ ap (λ (e : Edition). received (summaryOf e (now (args .line)))) (c .before .before .before .before .before .before .before .before .before .before .before .before .before .before .before .before .edition-of .ensures) ∙ v .0, room-is (c .before .before .before .before .before .before .before .before .before .before .before .before .before .before .before .before .edition-of .result) (now (args .line)) (now (args .room)) (fresh .result) (fresh .ensures) (if2 .left) (receive-bits .last .1 .1 .1 .0) (receive-bits .result) (receive-bits .ensures) (settle-held .last .0) (settle-held .ensures .2) ∙ ap (λ (e : Edition). receivedVectors e (now (args .line)) ++ drop (length (receivedVectors e (now (args .line)))) (now (args .room))) (c .before .before .before .before .before .before .before .before .before .before .before .before .before .before .before .before .edition-of .ensures) ∙ v .1)
+    let args = c .before .before .before .before .before .before .before .before .before .before .before .before .before .before .before .before .before .before .before .before .args in
+    let if1 = c .before .before .before .before .before .before .before .before .before .before .before .before .before .before .before .before .before .if1 in
+    let if2 = c .before .before .before .before .before .before .before .before .before .before .before .before .before .before .before .before .if2 in
+    let fresh = c .before .before .before .before .before .before .before .before .before .before .before .before .before .fresh in
+    let receive-bits = c .before .before .before .before .before .before .before .before .before .before .before .before .receive-bits in
+    let receive-last = c .before .before .before .before .receive-last in
+    let v = passes (args .edition) (now (args .line)) (now (args .room)) (c .before .before .before .before .before .before .before .before .before .before .before .before .before .before .before .before .before .before .before .before .pre .2) (if1 .left) (if2 .left) in
+    (ap received (summary-is (c .before .before .before .before .before .before .before .before .before .before .before .before .before .before .edition-of .result) (now (args .line)) (now (args .room)) (fresh .result) (fresh .ensures) (if2 .left) (receive-bits .last .1 .1 .1 .0) (receive-bits .result) (receive-bits .ensures) (receive-last .result .alone) (receive-last .result .handed) (receive-last .ensures .2) (receive-last .ensures .1)) ∙ ap (λ (e : Edition). received (summaryOf e (now (args .line)))) (c .before .before .before .before .before .before .before .before .before .before .before .before .before .before .edition-of .ensures) ∙ v .0, room-is (c .before .before .before .before .before .before .before .before .before .before .before .before .before .before .edition-of .result) (now (args .line)) (now (args .room)) (fresh .result) (fresh .ensures) (if2 .left) (receive-bits .last .1 .1 .1 .0) (receive-bits .result) (receive-bits .ensures) (receive-last .last .0) (receive-last .ensures .0) ∙ ap (λ (e : Edition). receivedVectors e (now (args .line)) ++ drop (length (receivedVectors e (now (args .line)))) (now (args .room))) (c .before .before .before .before .before .before .before .before .before .before .before .before .before .before .edition-of .ensures) ∙ v .1)
 
 pub receive-with-spec : {M : Type 1} → statement M
 receive-with-spec =
@@ -79,7 +76,6 @@ receive-with-spec =
     edition-of-requires
     fresh-requires
     receive-bits-requires
-    settle-held-requires
-    judged-alone-requires
+    receive-last-requires
     same-length
     returns-3)

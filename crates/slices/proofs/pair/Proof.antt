@@ -1,9 +1,9 @@
--- `holzmotte::pair` meets its contract. Assumes nothing.
+-- `slices::pair` meets its contract. Assumes nothing.
 use native.Mathlib.Omega.{arith}
-use Rattle.holzmotte.proofs.Laws.{pair-bytes}
+use Rattle.slices.proofs.Laws.{pair-bytes}
 use borrow.Author.Needs.{needs}
-use Rattle.holzmotte.proofs.pair.Statement.{statement}
-use Rattle.holzmotte.proofs.pair.Tie as tie
+use Rattle.slices.proofs.pair.Statement.{statement}
+use Rattle.slices.proofs.pair.Tie as tie
 
 mul-result : tie.Need-mul-result
 mul-result c = search needs

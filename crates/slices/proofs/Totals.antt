@@ -9,14 +9,14 @@ use lib.Seq.{drop-at}
 use Rattle.bits.specs.Bits.{bit, number, streamBit, lineBit, cut}
 use Rattle.bits.proofs.Laws.{bit-lt, is-number, number-same, stream-cut, length-cut}
 use Rattle.bits.proofs.Lists.{stream-left, stream-right}
-use Rattle.receiving.specs.Counted.{plus, plusHanded}
+use Rattle.receiving.specs.Parts.{plus, plusHanded}
 use Rattle.receiving.specs.declared.Counts.{Counts}
 use Rattle.receiving.specs.declared.Handed.{Handed}
 use Rattle.counters.specs.Counters.{becomes, updated}
 use Rattle.counters.specs.declared.Counters.{Counters}
 use Rattle.counters.proofs.Laws.{updated-twice}
-use Rattle.holzmotte.specs.Boundary.{wordBytes, counterAt, countersIn, counterWords, countersWith}
-use Rattle.holzmotte.proofs.Laws.{length-words}
+use Rattle.slices.specs.Slices.{wordBytes, counterAt, countersIn, counterWords, countersWith}
+use Rattle.slices.proofs.Laws.{length-words}
 
 -- a word of 32 bits that was put is found again
 word-at : (ws rest : List ℕ) (i : ℕ) → i < length ws → getD ws i 0 < 2 ^ 32 → counterAt (wordBytes 4 ws ++ rest) i ≡ getD ws i 0

@@ -1,13 +1,13 @@
--- `holzmotte::clear` meets its contract: a summary long enough, or too short. Assumes nothing.
+-- `slices::clear` meets its contract: a summary long enough, or too short. Assumes nothing.
 use mathlib.Core.Path.{sym, _∙_}
 use denote.Ref.{now}
 use lib.ListN.{replicate}
 use native.Mathlib.Omega.{arith}
-use Rattle.holzmotte.specs.Boundary.{receiveLength}
-use Rattle.holzmotte.proofs.Laws.{summary-short, summary-long}
+use Rattle.slices.specs.Slices.{receiveLength}
+use Rattle.slices.proofs.Laws.{summary-short, summary-long}
 use borrow.Author.Needs.{needs}
-use Rattle.holzmotte.proofs.clear.Statement.{statement}
-use Rattle.holzmotte.proofs.clear.Tie as tie
+use Rattle.slices.proofs.clear.Statement.{statement}
+use Rattle.slices.proofs.clear.Tie as tie
 
 slice-aggregate-put-words : tie.Need-slice-aggregate-put-words
 slice-aggregate-put-words c = search needs

@@ -1,7 +1,7 @@
--- `holzmotte::load_counters` meets its contract, field by field. Assumes nothing.
+-- `slices::load_counters` meets its contract, field by field. Assumes nothing.
 use borrow.Author.Needs.{needs}
-use Rattle.holzmotte.proofs.load_counters.Statement.{statement}
-use Rattle.holzmotte.proofs.load_counters.Tie as tie
+use Rattle.slices.proofs.load_counters.Statement.{statement}
+use Rattle.slices.proofs.load_counters.Tie as tie
 
 load-half-requires : tie.Need-load-half-requires
 load-half-requires c κs = search needs

@@ -1,10 +1,10 @@
--- `holzmotte::put_summary` meets its contract: the words, with the flags as they were made. Assumes nothing.
+-- `slices::put_summary` meets its contract: the words, with the flags as they were made. Assumes nothing.
 use lib.ListN.{drop}
 use denote.Ref.{now}
-use Rattle.holzmotte.proofs.Receives.{flagged}
+use Rattle.slices.proofs.Summary.{flagged}
 use borrow.Author.Needs.{needs}
-use Rattle.holzmotte.proofs.put_summary.Statement.{statement}
-use Rattle.holzmotte.proofs.put_summary.Tie as tie
+use Rattle.slices.proofs.put_summary.Statement.{statement}
+use Rattle.slices.proofs.put_summary.Tie as tie
 
 flag-requires : tie.Need-flag-requires
 flag-requires c κs = search needs

@@ -1,11 +1,11 @@
--- `holzmotte::put_words` meets its contract, word by word. Assumes nothing.
+-- `slices::put_words` meets its contract, word by word. Assumes nothing.
 use Prim.Native.Nat.{_-_}
 use native.Mathlib.Omega.{arith}
 use lib.ListN.{length}
-use Rattle.holzmotte.proofs.Laws.{Put, put-first, put-next, put-done}
+use Rattle.slices.proofs.Laws.{Put, put-first, put-next, put-done}
 use borrow.Author.Needs.{needs}
-use Rattle.holzmotte.proofs.put_words.Statement.{statement}
-use Rattle.holzmotte.proofs.put_words.Tie as tie
+use Rattle.slices.proofs.put_words.Statement.{statement}
+use Rattle.slices.proofs.put_words.Tie as tie
 
 abbrev Inv-loop : tie.InvT-loop
 Inv-loop summary₀ words i₀ summary i = Put summary₀ words summary i

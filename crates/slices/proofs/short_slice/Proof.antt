@@ -1,7 +1,7 @@
--- `holzmotte::short_slice` meets its contract: the summary, the counters. Assumes nothing.
+-- `slices::short_slice` meets its contract: the summary, the counters. Assumes nothing.
 use borrow.Author.Tests.{lt-ltb, le-ltb}
-use Rattle.holzmotte.proofs.short_slice.Statement.{statement}
-use Rattle.holzmotte.proofs.short_slice.Tie as tie
+use Rattle.slices.proofs.short_slice.Statement.{statement}
+use Rattle.slices.proofs.short_slice.Tie as tie
 
 returns : tie.Need-returns
 returns c = rw (lt-ltb (c .before .args .summary) 96 (c .if1 .taken))

@@ -1,11 +1,11 @@
--- `holzmotte::store_counters` meets its contract, two at a time. Assumes nothing.
+-- `slices::store_counters` meets its contract, two at a time. Assumes nothing.
 use mathlib.Core.Path.{_∙_}
 use denote.Ref.{now}
 use lib.ListN.{drop}
-use Rattle.holzmotte.proofs.Laws.{counters-put}
+use Rattle.slices.proofs.Laws.{counters-put}
 use borrow.Author.Needs.{needs}
-use Rattle.holzmotte.proofs.store_counters.Statement.{statement}
-use Rattle.holzmotte.proofs.store_counters.Tie as tie
+use Rattle.slices.proofs.store_counters.Statement.{statement}
+use Rattle.slices.proofs.store_counters.Tie as tie
 
 pair-requires : tie.Need-pair-requires
 pair-requires c κs = search needs

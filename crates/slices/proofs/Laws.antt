@@ -13,7 +13,7 @@ use Rattle.bits.specs.Bits.{bit, cut}
 use Rattle.bits.proofs.Laws.{length-cut, cut-same, bit-below, bit-above}
 use Rattle.bits.proofs.Lists.{cut-add}
 use Rattle.refusals.specs.First.{Check, check, Verdict, accepted, refused, first, byVerdict}
-use Rattle.holzmotte.specs.Boundary.{after, wordBytes, tooShort, summaryWith, counterWords}
+use Rattle.slices.specs.Slices.{after, wordBytes, tooShort, summaryWith, counterWords}
 use Rattle.counters.specs.declared.Counters.{Counters}
 
 -- one more check that does not apply changes nothing

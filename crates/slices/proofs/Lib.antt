@@ -1,0 +1,4 @@
+pub mod Laws
+pub mod Summary
+pub mod Totals
+pub mod Unique
