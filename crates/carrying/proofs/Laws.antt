@@ -8,7 +8,7 @@ use native.Mathlib.Omega.{arith}
 use lib.ListN.{length, getD, take, drop}
 use Rattle.bits.specs.Bits.{bit, number, listed, lineBit, lineBits}
 use Rattle.bits.proofs.Laws.{number-same}
-use Rattle.bits.proofs.Lists.{length-listed, listed-at, part-lineBits, length-lineBits, lineBit-lt}
+use Rattle.bits.proofs.Lists.{length-listed, listed-at, part-lineBits, length-lineBits}
 use Rattle.line.specs.Word.{word}
 use Rattle.line.specs.declared.Block.{Block}
 use Rattle.line.proofs.Laws.{header-number, payload-number}
@@ -16,7 +16,7 @@ use Rattle.carrying.specs.Carrying.{wordOf, carriedBits, Sound, blockBit
 use Rattle.carrying.specs.declared.Carried.{Carried}
 use Rattle.carrying.specs.declared.Taken.{Taken}
 use Rattle.carrying.proofs.Reading.{number-zeros, bit-past}
-use Rattle.carrying.proofs.Joining.{word-more, bits-more}
+use Rattle.carrying.proofs.Joining.{onward, word-more, bits-more}
 
 -- where nothing is carried there are no bits
 pub bits-none : (c : Carried) → c .count ≡ 0 → carriedBits c ≡ []
@@ -66,7 +66,7 @@ module _ (line : List ℕ) (pos : ℕ) (c : Carried) where
 
   -- n line bits, with those carried
   module _ (sound : Sound c) (n : ℕ) (room : pos + n ≤ 8 * length line) (n-le : c .count + n ≤ 66) (more : Block) (head : more .header < 4)
-      (joins : word more ≡ wordOf c + number (66 - c .count) (λ i. lineBit line (pos + i)) * 2 ^ c .count) (t : Taken) (next : t .next ≡ pos + n) where
+      (joins : word more ≡ wordOf c + number (66 - c .count) (onward line pos) * 2 ^ c .count) (t : Taken) (next : t .next ≡ pos + n) where
     -- the bits of the block's word
     pub more-bits : blockBits B pos c t ≡ listed (c .count + n) (bit (word more))
     unfolding carriedBits
@@ -74,17 +74,17 @@ module _ (line : List ℕ) (pos : ℕ) (c : Carried) where
         let e : t .next - pos ≡ n = omega arith in
         ap (λ (k : ℕ). carriedBits c ++ take k (drop pos B)) e
         ∙ ap (λ (l : List ℕ). carriedBits c ++ l) (part-lineBits n pos line room)
-        ∙ sym (bits-more (λ i. lineBit line (pos + i)) (λ i. lineBit-lt line (pos + i)) (c .count) (66 - c .count) n (wordOf c) (sound .fits) (omega arith))
+        ∙ sym (bits-more line pos (c .count) (66 - c .count) n (wordOf c) (sound .fits) (omega arith))
         ∙ ap (λ (w : ℕ). listed (c .count + n) (bit w)) (sym joins)
 
     -- where they are the line's last, no other bit is set
     pub more-fits : 8 * length line ≤ pos + n → word more < 2 ^ (c .count + n)
     more-fits last =
-        let f : ℕ → ℕ = λ i. lineBit line (pos + i) in
+        let f = onward line pos in
         let e : 66 - c .count ≡ n + (66 - c .count - n) = omega arith in
         let z : number (66 - c .count) f ≡ number n f = ap (λ (k : ℕ). number k f) e ∙ number-zeros n (66 - c .count - n) f (λ i l. bit-past line (pos + i) (omega arith)) in
         subst (λ (w : ℕ). w < 2 ^ (c .count + n)) (sym (joins ∙ ap (λ (k : ℕ). wordOf c + k * 2 ^ c .count) z))
-        (word-more f (λ i. lineBit-lt line (pos + i)) (c .count) n (wordOf c) (sound .fits))
+        (word-more line pos (c .count) n (wordOf c) (sound .fits))
 
     -- 66: the block is full
     pub fills-last : c .count + n ≡ 66 → more .payload < 2 ^ 64 → t .header ≡ more .header → t .payload ≡ more .payload
@@ -136,7 +136,7 @@ module _ (line : List ℕ) (pos : ℕ) (c : Carried) (here : pos < 8 * length li
       }
 
   module _ (sound : Sound c) (n : ℕ) (some : 0 < n) (room : pos + n ≤ 8 * length line) (more : Block) (head : more .header < 4)
-      (joins : word more ≡ wordOf c + number (66 - c .count) (λ i. lineBit line (pos + i)) * 2 ^ c .count) (en : t .next ≡ pos + n) where
+      (joins : word more ≡ wordOf c + number (66 - c .count) (onward line pos) * 2 ^ c .count) (en : t .next ≡ pos + n) where
     -- the line's last bits wait
     pub takes-rest : t .full ≡ false → t .carried ≡ record { count = c .count + n; header = more .header; payload = more .payload }
         → c .count + n < 66 → 8 * length line ≤ pos + n → Takes (lineBits line) pos false c t

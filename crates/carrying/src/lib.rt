@@ -80,7 +80,7 @@ fn join(line: &[u8], pos: usize, c: Carried) -> Block
     }
 }
 
-// The bits that the carried block lacks, or all that the line has left, if these are fewer.
+// All the bits that the carried block lacks are taken, or all that the line has left, if these are fewer.
 fn fill(line: &[u8], pos: usize, c: Carried) -> Taken
     requires { ⌜ (pos < 8 * length (now line)) × (length (now line) ≤ 825000) × Sound c ⌝ }
     ensures { λ r. ⌜ Takes (lineBits (now (line .entry))) pos false c r ⌝ }
