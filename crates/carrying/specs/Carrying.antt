@@ -23,7 +23,7 @@ pub record Sound (c : Carried) : Type 0 where
   pub header : c .header < 4
   pub fits : wordOf c < 2 ^ c .count
 
--- the bits of the block that is full: those carried, and those taken
+-- the bits of the block so far: those carried, and those taken
 abbrev pub blockBits : List ℕ → ℕ → Carried → Taken → List ℕ
 blockBits bits pos c t = carriedBits c ++ take (t .next - pos) (drop pos bits)
 
@@ -35,11 +35,10 @@ pub record Fills (bits : List ℕ) (pos : ℕ) (skip : Bool) (c : Carried) (t : 
   pub payload : t .payload ≡ number 64 (λ i. getD (blockBits bits pos c t) (2 + i) 0)
   pub none : carriedBits (t .carried) ≡ []
 
--- one bit, which is skipped or waits
+-- no block is full: one bit is skipped, or some wait with those carried
 pub record Waits (bits : List ℕ) (pos : ℕ) (skip : Bool) (c : Carried) (t : Taken) : Type 0 where
-  pub one : t .next ≡ pos + 1
-  pub carried : carriedBits (t .carried) ≡ cond skip [] (carriedBits c ++ getD bits pos 0 ∷ [])
-  pub short : skip ≡ false → c .count < 65
+  pub one : skip ≡ true → t .next ≡ pos + 1
+  pub carried : carriedBits (t .carried) ≡ cond skip [] (blockBits bits pos c t)
 
 -- what is taken at a place of the line, from what is carried there
 pub record Takes (bits : List ℕ) (pos : ℕ) (skip : Bool) (c : Carried) (t : Taken) : Type 0 where

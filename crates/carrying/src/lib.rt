@@ -1,12 +1,14 @@
-// Blocks taken from the line: a whole one where nothing is carried, else one bit.
+// Blocks taken from the line: a whole one where nothing is carried, else the bits that the carried one lacks.
+use line::Block;
 use line::bits_at;
 use line::header_at;
 use line::wide;
 ghost use mathlib.Core.Path.{_≡_};
 ghost use mathlib.Core.Bool.{false};
-ghost use Prim.Native.Nat.{ℕ, _+_, _*_, _^_, _<_, _≤_};
+ghost use Prim.Native.Nat.{ℕ, _+_, _-_, _*_, _^_, _<_, _≤_};
 ghost use lib.ListN.{length};
-ghost use Rattle.bits.specs.Bits.{lineBit, lineBits};
+ghost use Rattle.bits.specs.Bits.{number, lineBit, lineBits};
+ghost use Rattle.line.specs.Word.{word};
 ghost use Rattle.carrying.specs.Carrying.{wordOf, Sound, Takes};
 
 // The bits since the last tested block, fewer than 66: the header's two, then the payload's, each with the first bit lowest.
@@ -35,54 +37,76 @@ pub fn nothing() -> Carried
     }
 }
 
-// One line bit.
-fn bit_at(line: &[u8], pos: usize) -> u64
-    requires { ⌜ pos < 8 * length (now line) ⌝ }
-    ensures { λ r. ⌜ (r ≡ lineBit (now (line .entry)) pos) × (r < 2) ⌝ }
+// The bytes of the line from byte at on, at most eight, as one word.
+fn tail(line: &[u8], at: usize) -> u64
+    requires { ⌜ (at ≤ length (now line)) × (length (now line) ≤ at + 8) ⌝ }
+    ensures { λ r. ⌜ r ≡ number 64 (λ i. lineBit (now (line .entry)) (8 * at + i)) ⌝ }
 {
-    (wide(line[pos / 8]) >> (pos % 8)) % 2
+    let mut i = line.len();
+    let mut word = 0;
+    while at < i {
+        i -= 1;
+        word = word * 256 + wide(line[i]);
+    }
+    word
 }
 
-// The bits carried and one more.
-fn carry(c: Carried, b: u64) -> Carried
-    requires { ⌜ Sound c × (b < 2) ⌝ }
-    ensures { λ r. ⌜ (r .count ≡ c .count + 1) × (r .header < 4) × (wordOf r ≡ wordOf c + b * 2 ^ c .count) ⌝ }
+// The 64 line bits from bit pos on; past the end they are zeros.
+fn bits_from(line: &[u8], pos: usize) -> u64
+    requires { ⌜ (pos < 8 * length (now line) + 8) × (length (now line) ≤ 825000) ⌝ }
+    ensures { λ r. ⌜ r ≡ number 64 (λ i. lineBit (now (line .entry)) (pos + i)) ⌝ }
 {
+    if pos + 64 <= line.len() * 8 {
+        return bits_at(line, pos);
+    }
+    tail(line, pos / 8) >> (pos % 8)
+}
+
+// The block that starts with the carried bits and goes on with the line bits from bit pos on; past the line's end they are zeros.
+fn join(line: &[u8], pos: usize, c: Carried) -> Block
+    requires { ⌜ (pos < 8 * length (now line)) × (length (now line) ≤ 825000) × Sound c ⌝ }
+    ensures { λ r. ⌜ (r .header < 4) × (word r ≡ wordOf c + number (66 - c .count) (λ i. lineBit (now (line .entry)) (pos + i)) * 2 ^ c .count) ⌝ }
+{
+    let more = bits_from(line, pos);
     if c.count < 2 {
-        return Carried {
-            count: c.count + 1,
-            header: c.header + (b << c.count),
-            payload: c.payload,
+        return Block {
+            header: (c.header + (more << c.count)) % 4,
+            payload: bits_from(line, pos + 2 - c.count as usize),
         };
     }
-    Carried {
-        count: c.count + 1,
+    Block {
         header: c.header,
-        payload: c.payload + (b << (c.count - 2)),
+        payload: c.payload + (more << (c.count - 2)),
     }
 }
 
-// One bit, where a block cannot be taken whole.
-fn one_bit(line: &[u8], pos: usize, c: Carried) -> Taken
+// All the bits that the carried block lacks are taken, or all that the line has left, if these are fewer.
+fn fill(line: &[u8], pos: usize, c: Carried) -> Taken
     requires { ⌜ (pos < 8 * length (now line)) × (length (now line) ≤ 825000) × Sound c ⌝ }
     ensures { λ r. ⌜ Takes (lineBits (now (line .entry))) pos false c r ⌝ }
 {
-    let more = carry(c, bit_at(line, pos));
-    if more.count < 66 {
+    let block = join(line, pos, c);
+    let left = line.len() * 8 - pos;
+    let lacks = 66 - c.count as usize;
+    if left < lacks {
         return Taken {
             full: false,
             header: 0,
             payload: 0,
-            carried: more,
-            next: pos + 1,
+            carried: Carried {
+                count: c.count + left as u64,
+                header: block.header,
+                payload: block.payload,
+            },
+            next: pos + left,
         };
     }
     Taken {
         full: true,
-        header: more.header,
-        payload: more.payload,
+        header: block.header,
+        payload: block.payload,
         carried: nothing(),
-        next: pos + 1,
+        next: pos + lacks,
     }
 }
 
@@ -111,5 +135,5 @@ pub fn take_at(line: &[u8], pos: usize, skip: bool, c: Carried) -> Taken
             };
         }
     }
-    one_bit(line, pos, c)
+    fill(line, pos, c)
 }

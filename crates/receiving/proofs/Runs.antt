@@ -1,6 +1,6 @@
--- The laws of `run`: over joined lists of bits, over the bits that fill a block, over one bit that does not. Assumes nothing.
+-- The laws of `run`: over joined lists of bits, over the bits that fill a block, over bits that do not. Assumes nothing.
 use Prim.Native.Nat.{ℕ, _+_, _-_, _<_}
-use mathlib.Core.Path.{_≡_, refl}
+use mathlib.Core.Path.{_≡_, refl, ap, _∙_}
 use mathlib.Core.Bool.{true, false}
 use mathlib.Core.List.{List, [], _∷_, _++_, append-assoc, append-nil}
 use native.Mathlib.Omega.{arith}
@@ -42,12 +42,11 @@ run-short l c (x ∷ xs) h =
     rw (ne-eqb (length c) 65 (λ q. omega arith), ← append-snoc c x xs)
     (run-short l (c ++ x ∷ []) xs (simp length-append (omega arith)))
 
--- one bit that is skipped, and one that waits
+-- so they wait with those before them
+pub run-wait : (l : Link) (c xs rest : List ℕ) → length c + length xs < 66 → run (waiting l c) (xs ++ rest) ≡ run (waiting l (c ++ xs)) rest
+run-wait l c xs rest h = run-append (waiting l c) xs rest ∙ ap (λ (r : Run). after (r .tested) (run (r .end) rest)) (run-short l c xs h)
+
+-- one bit that is skipped
 pub run-skip : (l : Link) (c : List ℕ) (x : ℕ) (rest : List ℕ) → run (record { bits = c; skip = true; link = l }) (x ∷ rest) ≡ run (at l) rest
 unfolding run feed filled
 run-skip l c x rest = refl
-
--- one that waits with those before it
-pub run-wait : (l : Link) (c : List ℕ) (x : ℕ) (rest : List ℕ) → length c < 65 → run (waiting l c) (x ∷ rest) ≡ run (waiting l (c ++ x ∷ [])) rest
-unfolding run feed filled
-run-wait l c x rest h = rw (ne-eqb (length c) 65 (λ q. omega arith))

@@ -39,17 +39,22 @@ feedOf : List ℕ → Bool → Link → Feed
 unfolding feedIn
 feedOf bits skip l = record { bits = bits; skip = skip; link = l }
 
--- one bit that is skipped or waits
-wait-run : (B : List ℕ) (pos : ℕ) (skip : Bool) (c c′ : List ℕ) (l : Link) → pos < length B
-    → c′ ≡ cond skip [] (c ++ getD B pos 0 ∷ []) → (skip ≡ false → length c < 65)
-    → run (feedOf c skip l) (drop pos B) ≡ run (feedOf c′ false l) (drop (pos + 1) B)
+-- one bit that is skipped, or some that wait
+wait-run : (B : List ℕ) (pos next : ℕ) (skip : Bool) (c c′ : List ℕ) (l : Link) → pos < length B → pos < next → (skip ≡ true → next ≡ pos + 1)
+    → c′ ≡ cond skip [] (c ++ take (next - pos) (drop pos B)) → length c′ < 66
+    → run (feedOf c skip l) (drop pos B) ≡ run (feedOf c′ false l) (drop next B)
 unfolding feedOf
-wait-run B pos true c c′ l h e s =
+wait-run B pos next true c c′ l h past one e few =
     ap (run (feedOf c true l)) (drop-cons B pos 0 h) ∙ run-skip l c (getD B pos 0) (drop (suc pos) B)
-    ∙ ap₂ (λ (x : List ℕ) (n : ℕ). run (feedOf x false l) (drop n B)) (sym e) (sym (add-one pos))
-wait-run B pos false c c′ l h e s =
-    ap (run (feedOf c false l)) (drop-cons B pos 0 h) ∙ run-wait l c (getD B pos 0) (drop (suc pos) B) (s refl)
-    ∙ ap₂ (λ (x : List ℕ) (n : ℕ). run (feedOf x false l) (drop n B)) (sym e) (sym (add-one pos))
+    ∙ ap₂ (λ (x : List ℕ) (n : ℕ). run (feedOf x false l) (drop n B)) (sym e) (sym (one refl ∙ add-one pos))
+wait-run B pos next false c c′ l h past one e few =
+    let X = drop pos B in
+    let n = next - pos in
+    let m : pos + (next - pos) ≡ next = omega arith in
+    let len : length c + length (take (next - pos) (drop pos B)) ≡ length c′ = sym (length-append c (take n X)) ∙ sym (ap length e) in
+    ap (run (feedOf c false l)) (sym (take-append-drop n X))
+    ∙ run-wait l c (take n X) (drop n X) (omega arith)
+    ∙ ap₂ (λ (x z : List ℕ). run (feedOf x false l) z) (sym e) (drop-drop n pos B ∙ ap (λ (k : ℕ). drop k B) m)
 
 -- bits that fill a block
 fill-run : (B : List ℕ) (pos next : ℕ) (c : List ℕ) (l : Link) (h q : ℕ) → pos < next → length c < 66
@@ -73,7 +78,7 @@ fill-run B pos next c l h q past few whole eh eq =
 
 -- ---- a turn that tests no block
 
--- the receiver after the bit
+-- the receiver after the bits
 abbrev pub waited : Progress → Taken → Progress
 waited p t =
     record {
@@ -100,12 +105,11 @@ module _ (line room : List ℕ) (p : Progress) (u : Under line room p) (here : p
   waited-same idle =
       let w = k .waits idle in
       let r = p .receiver in
-      let shorter : r .skip ≡ false → length (carriedBits (r .carried)) < 65 = λ z. rw length-carried (w .short z) in
+      let few : length (carriedBits (t .carried)) < 66 = rw length-carried (k .sound .few) in
       ap (outcomeOf (take (p .at) room) (r .state) (heldIn r) (p .counts) (p .handed))
-      (ap (λ (n : ℕ). run (feedOf (carriedBits (t .carried)) false (r .link)) (drop n (lineBits line))) (w .one)
-      ∙ sym
-      (wait-run (lineBits line) (p .pos) (r .skip) (carriedBits (r .carried)) (carriedBits (t .carried)) (r .link) (omega (arith, length-lineBits line))
-      (w .carried) shorter))
+      (sym
+      (wait-run (lineBits line) (p .pos) (t .next) (r .skip) (carriedBits (r .carried)) (carriedBits (t .carried)) (r .link) (omega (arith, length-lineBits line))
+      (k .past) (w .one) (w .carried) few))
 
   -- so that is a turn
   pub turn-wait : t .full ≡ false → Turns line room room p (waited p t)

@@ -106,7 +106,8 @@ pub struct LastVector {
     pub alone: bool,
 }
 
-// One turn: a whole block of the line, or one bit. A block that is full is tested, and the one held before it is answered.
+// One turn: a whole block of the line, the bits that the carried one lacks, or a bit that is skipped. A block that is full is tested, and
+// the one held before it is answered.
 fn turn(t: &[u16; 3170], y: &[u8; 256], line: &[u8], room: &mut [u8], p: Progress) -> Progress
     requires { ⌜ ((now t ≡ tables (p .receiver .link .edition)) × (now y ≡ types)) × (length (now line) ≤ 825000) × Under (now line) (now room) p × (p .pos < 8 * length (now line)) ⌝ }
     ensures { λ r. ⌜ Turns (now (line .entry)) (now (room .entry)) (now (room .exit)) p r ⌝ }

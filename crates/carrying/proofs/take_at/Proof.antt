@@ -1,4 +1,4 @@
--- `carrying::take_at` meets its contract. A skipped bit, a whole block, or one bit. Assumes nothing.
+-- `carrying::take_at` meets its contract. A skipped bit, a whole block, or the bits that the carried one lacks. Assumes nothing.
 use mathlib.Core.Path.{refl}
 use native.Mathlib.Omega.{arith}
 use denote.Ref.{now}
@@ -49,11 +49,11 @@ returns-2 c =
     rw (if1 .left)
     (takes-whole (now (args .line)) (args .pos) (args .c) (pre .0) _ (if2 .taken) (omega arith) refl (c .nothing2 .ensures) refl (c .before .before .header-at .ensures) (c .before .bits-at .ensures))
 
-one-bit-requires : tie.Need-one-bit-requires
-one-bit-requires c κs = search needs
+fill-requires : tie.Need-fill-requires
+fill-requires c κs = search needs
 
 returns-3 : tie.Need-returns-3
-returns-3 c = rw (c .before .before .before .if1 .left) (c .one-bit .ensures)
+returns-3 c = rw (c .before .before .before .if1 .left) (c .fill .ensures)
 
 pub take-at-spec : {M : Type 1} → statement M
 take-at-spec =
@@ -70,5 +70,5 @@ take-at-spec =
     nothing-requires-2
     add-t16
     returns-2
-    one-bit-requires
+    fill-requires
     returns-3)

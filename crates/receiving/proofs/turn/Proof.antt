@@ -1,4 +1,4 @@
--- `receiving::turn` meets its contract. A block that is full is tested, and the block held is answered; a bit waits or is skipped. Assumes nothing.
+-- `receiving::turn` meets its contract. A block that is full is tested, and the block held is answered; bits wait, or one is skipped. Assumes nothing.
 use native.Mathlib.Omega.{arith}
 use denote.Ref.{now}
 use Rattle.receiving.proofs.Counted.{within-wide, handed-wide}
