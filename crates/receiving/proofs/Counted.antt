@@ -217,3 +217,32 @@ handed-next h j n m w l = record { begun = omega (arith, w .begun, one-le (begin
 
 pub handed-wide : (h : Handed) (n m : ℕ) → HandedWithin n h → n ≤ m → HandedWithin m h
 handed-wide h n m w l = record { begun = omega (arith, w .begun); replaced = omega (arith, w .replaced) }
+
+-- ---- no count is above the number of those counted
+
+how-few : {A : Type 0} (test : A → Bool) (xs : List A) → howMany test xs ≤ length xs
+unfolding howMany
+how-few test [] = zero-le
+how-few test (x ∷ xs) = omega (arith, one-le (test x), how-few test xs)
+
+pub counts-few : (ts : List Tested) (n : ℕ) → length ts ≤ n → Within n (countsOf ts)
+unfolding countsOf
+counts-few ts n l =
+    record {
+      tested = l;
+      slips = omega (arith, how-few (λ t. t .slipped) ts);
+      headers = omega (arith, how-few (λ t. badFor Header (t .class)) ts);
+      types = omega (arith, how-few (λ t. badFor BlockType (t .class)) ts);
+      codes = omega (arith, how-few (λ t. badFor ControlCode (t .class)) ts);
+      sets = omega (arith, how-few (λ t. badFor SetCode (t .class)) ts);
+    }
+
+pub handed-few : (js : List Judged) (n : ℕ) → length js ≤ n → HandedWithin n (handedOf js)
+unfolding handedOf
+handed-few js n l = record { begun = omega (arith, how-few begins js); replaced = omega (arith, how-few replaces js) }
+
+-- joined lists of blocks
+pub count-append : (c : Counts) (a b : List Tested) → plus c (countsOf (a ++ b)) ≡ plus (plus c (countsOf a)) (countsOf b)
+count-append c [] b = ap (λ (z : Counts). plus z (countsOf b)) (sym (count-end c))
+count-append c (t ∷ a) b =
+    sym (count-more c t (a ++ b)) ∙ count-append (counted c t) a b ∙ ap (λ (z : Counts). plus z (countsOf b)) (count-more c t a)

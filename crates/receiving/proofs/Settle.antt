@@ -1,5 +1,5 @@
 -- The vectors of all blocks but the last, the block held, and its bytes in the room. Assumes nothing.
-use Prim.Native.Nat.{ℕ, _+_, _*_, _≤_, _<_}
+use Prim.Native.Nat.{ℕ, suc, _+_, _*_, _≤_, _<_}
 use mathlib.Core.Path.{_≡_, refl, sym, ap, ap₂, _∙_}
 use mathlib.Core.Bool.{Bool, true, false, cond}
 use mathlib.Core.List.{List, [], _∷_, _++_, append-assoc, append-nil, flatten}
@@ -178,6 +178,20 @@ settle-tens s (more {t} {ts = u ∷ us} e (more f r)) =
     let s′ = stateOf s t (letsEnd u) in
     length-append (answerIn s′ (t .vector)) (bytesOf (settle s′ (u ∷ us) .judged))
     ∙ omega (arith, length-answer s′ (t .vector) e, settle-tens s′ (more {t = u} f r))
+
+-- as many blocks in their states as there are
+pub judge-length : (s : State) (ts : List Tested) → length (judge s ts) ≡ length ts
+unfolding judge
+judge-length s [] = refl
+judge-length s (t ∷ ts) = ap suc (judge-length (stateOf s t (ends ts)) ts)
+
+-- and their bytes, ten for each
+pub judge-tens : (s : State) {ts : List Tested} → Each Ten ts → length (bytesOf (judge s ts)) ≡ 10 * length (judge s ts)
+unfolding judge flatten
+judge-tens s none = refl
+judge-tens s (more {t} {ts} e r) =
+    let s′ = stateOf s t (ends ts) in
+    length-append (answerIn s′ (t .vector)) (bytesOf (judge s′ ts)) ∙ omega (arith, length-answer s′ (t .vector) e, judge-tens s′ r)
 
 -- the vector of the block held at the end of the input
 pub last-bytes : (have : Bool) (s : State) (h : Held) → bytesOf (judge s (holding have h)) ≡ heldBytes have s h true

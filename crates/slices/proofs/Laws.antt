@@ -4,16 +4,16 @@ use mathlib.Core.Path.{_≡_, refl, sym, ap, ap₂, _∙_}
 use mathlib.Core.Bool.{false, cond}
 use mathlib.Core.List.{List, [], _∷_, _++_, append-assoc, append-nil}
 use native.Mathlib.Omega.{arith}
-use native.Mathlib.Nat.{mul-suc}
+use native.Mathlib.Nat.{mul-suc, mul-zero, zero-add, le-of-suc-le-suc, not-suc-le-zero}
 use native.Mathlib.Numerals.{add-one}
 use lib.ListN.{length, getD, take, drop, length-append}
 use lib.Seq.{take-at, drop-at, drop-drop, take-suc, take-all, length-take-le}
 use borrow.Author.Tests.{lt-ltb, le-ltb}
-use Rattle.bits.specs.Bits.{bit, cut}
-use Rattle.bits.proofs.Laws.{length-cut, cut-same, bit-below, bit-above}
-use Rattle.bits.proofs.Lists.{cut-add}
+use Rattle.bits.specs.Bits.{bit, streamBit, lineBit, cut}
+use Rattle.bits.proofs.Laws.{length-cut, cut-same, bit-below, bit-above, bit-lt, is-number, number-same, stream-cut}
+use Rattle.bits.proofs.Lists.{cut-add, stream-left, stream-right}
 use Rattle.refusals.specs.First.{Check, check, Verdict, accepted, refused, first, byVerdict}
-use Rattle.slices.specs.Slices.{after, wordBytes, tooShort, summaryWith, counterWords}
+use Rattle.slices.specs.Slices.{after, wordAt, wordBytes, tooShort, summaryWith, counterWords}
 use Rattle.counters.specs.declared.Counters.{Counters}
 
 -- one more check that does not apply changes nothing
@@ -128,3 +128,25 @@ counters-put c p q r s rest ep eq er es =
     two : (w a b : ℕ) (l m : List ℕ) → cut 8 (bit w) 8 ≡ cut 8 (bit a) 4 ++ cut 8 (bit b) 4 → l ≡ m
         → cut 8 (bit w) 8 ++ l ≡ cut 8 (bit a) 4 ++ (cut 8 (bit b) 4 ++ m)
     two w a b l m e f = ap₂ _++_ e f ∙ append-assoc (cut 8 (bit a) 4) (cut 8 (bit b) 4) m
+
+-- ---- a word that was put is found again, whatever its width
+
+pub word-back : (k : ℕ) (ws rest : List ℕ) (i : ℕ) → i < length ws → getD ws i 0 < 2 ^ (8 * k) → wordAt k (wordBytes k ws ++ rest) i ≡ getD ws i 0
+unfolding wordAt lineBit
+word-back k [] rest i l b = absurd (not-suc-le-zero l)
+word-back k (w ∷ ws) rest zero l b =
+    sym
+    (is-number (8 * k) w _ b
+    (λ j m.
+    let e : 8 * k * 0 + j ≡ j = ap (λ (n : ℕ). n + j) (mul-zero (8 * k)) ∙ zero-add j in
+    sym
+    (ap₂ (streamBit 8) (append-assoc (cut 8 (bit w) k) (wordBytes k ws) rest) e
+    ∙ stream-left 8 (omega arith) (cut 8 (bit w) k) (wordBytes k ws ++ rest) j (omega (arith, length-cut 8 k (bit w)))
+    ∙ stream-cut 8 (omega arith) k (bit w) (bit-lt w) j (omega arith))))
+word-back k (w ∷ ws) rest (suc i) l b =
+    number-same (8 * k) _ _
+    (λ j m.
+    let e : 8 * k * suc i + j ≡ 8 * length (cut 8 (bit w) k) + (8 * k * i + j) = omega (arith, length-cut 8 k (bit w), mul-suc (8 * k) i) in
+    ap₂ (streamBit 8) (append-assoc (cut 8 (bit w) k) (wordBytes k ws) rest) e
+    ∙ stream-right 8 (omega arith) (cut 8 (bit w) k) (wordBytes k ws ++ rest) (8 * k * i + j))
+    ∙ word-back k ws rest i (le-of-suc-le-suc l) b

@@ -15,29 +15,8 @@ use Rattle.receiving.specs.declared.Handed.{Handed}
 use Rattle.counters.specs.Counters.{becomes, updated}
 use Rattle.counters.specs.declared.Counters.{Counters}
 use Rattle.counters.proofs.Laws.{updated-twice}
-use Rattle.slices.specs.Slices.{wordBytes, counterAt, countersIn, counterWords, countersWith}
-use Rattle.slices.proofs.Laws.{length-words}
-
--- a word of 32 bits that was put is found again
-word-at : (ws rest : List ℕ) (i : ℕ) → i < length ws → getD ws i 0 < 2 ^ 32 → counterAt (wordBytes 4 ws ++ rest) i ≡ getD ws i 0
-unfolding lineBit
-word-at [] rest i l b = absurd (not-suc-le-zero l)
-word-at (w ∷ ws) rest zero l b =
-    sym
-    (is-number 32 w _ b
-    (λ j m.
-    let e : 32 * 0 + j ≡ j = omega arith in
-    sym
-    (ap₂ (streamBit 8) (append-assoc (cut 8 (bit w) 4) (wordBytes 4 ws) rest) e
-    ∙ stream-left 8 (omega arith) (cut 8 (bit w) 4) (wordBytes 4 ws ++ rest) j (omega (arith, length-cut 8 4 (bit w)))
-    ∙ stream-cut 8 (omega arith) 4 (bit w) (bit-lt w) j (omega arith))))
-word-at (w ∷ ws) rest (suc i) l b =
-    number-same 32 _ _
-    (λ j m.
-    let e : 32 * suc i + j ≡ 8 * length (cut 8 (bit w) 4) + (32 * i + j) = omega (arith, length-cut 8 4 (bit w)) in
-    ap₂ (streamBit 8) (append-assoc (cut 8 (bit w) 4) (wordBytes 4 ws) rest) e
-    ∙ stream-right 8 (omega arith) (cut 8 (bit w) 4) (wordBytes 4 ws ++ rest) (32 * i + j))
-    ∙ word-at ws rest i (le-of-suc-le-suc l) b
+use Rattle.slices.specs.Slices.{wordBytes, wordAt, countersIn, counterWords, countersWith}
+use Rattle.slices.proofs.Laws.{length-words, word-back}
 
 module _ (c : Counters) (n : Counts) (h : Handed) (bytes : List ℕ) where
   -- a counter has 32 bits
@@ -60,8 +39,8 @@ module _ (c : Counters) (n : Counts) (h : Handed) (bytes : List ℕ) where
       }
     where
       at : (k : ℕ) → k < 8 → getD (counterWords (updated c n h)) k 0 < 2 ^ 32
-          → counterAt (countersWith (updated c n h) bytes) k ≡ getD (counterWords (updated c n h)) k 0
-      at k l b = word-at (counterWords (updated c n h)) (drop 32 bytes) k l b
+          → wordAt 4 (countersWith (updated c n h) bytes) k ≡ getD (counterWords (updated c n h)) k 0
+      at k l b = word-back 4 (counterWords (updated c n h)) (drop 32 bytes) k l b
 
   -- behind them nothing changes
   behind : drop 32 (countersWith (updated c n h) bytes) ≡ drop 32 bytes

@@ -27,6 +27,10 @@ abbrev pub wordBytes : (k : ℕ) → List ℕ → List ℕ
 wordBytes k [] = []
 wordBytes k (w ∷ ws) = cut 8 (bit w) k ++ wordBytes k ws
 
+-- word i of a slice
+unfoldable pub wordAt : (k : ℕ) → List ℕ → ℕ → ℕ
+wordAt k bytes i = number (8 * k) (λ j. lineBit bytes (8 * k * i + j))
+
 -- whether a slice of so many bytes is too short for n words of k bytes
 abbrev pub tooShort : (k n bytes : ℕ) → Bool
 tooShort k n bytes = ltb bytes (k * n)
@@ -37,22 +41,18 @@ summaryWith n words summary = cond (tooShort 8 n (length summary)) summary (word
 
 -- ---- the counters: eight words of 32 bits
 
--- word i of a slice
-abbrev pub counterAt : List ℕ → ℕ → ℕ
-counterAt bytes i = number 32 (λ j. lineBit bytes (32 * i + j))
-
 -- the counters that a slice holds, and their words
 abbrev pub countersIn : List ℕ → Counters
 countersIn bytes =
     record {
-      tested = counterAt bytes 0;
-      slips = counterAt bytes 1;
-      headers = counterAt bytes 2;
-      types = counterAt bytes 3;
-      codes = counterAt bytes 4;
-      sets = counterAt bytes 5;
-      begun = counterAt bytes 6;
-      replaced = counterAt bytes 7;
+      tested = wordAt 4 bytes 0;
+      slips = wordAt 4 bytes 1;
+      headers = wordAt 4 bytes 2;
+      types = wordAt 4 bytes 3;
+      codes = wordAt 4 bytes 4;
+      sets = wordAt 4 bytes 5;
+      begun = wordAt 4 bytes 6;
+      replaced = wordAt 4 bytes 7;
     }
 
 abbrev pub counterWords : Counters → List ℕ

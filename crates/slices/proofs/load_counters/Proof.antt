@@ -1,5 +1,6 @@
 -- `slices::load_counters` meets its contract, field by field. Assumes nothing.
 use borrow.Author.Needs.{needs}
+use Rattle.slices.specs.Slices.{wordAt}
 use Rattle.slices.proofs.load_counters.Statement.{statement}
 use Rattle.slices.proofs.load_counters.Tie as tie
 
@@ -52,6 +53,7 @@ cast-t17 : tie.Need-cast-t17
 cast-t17 c = search needs
 
 returns : tie.Need-returns
+unfolding wordAt
 returns c =
     λ i. record {
       tested = c .before .before .before .before .before .before .before .load-half .ensures .0 i;

@@ -1,0 +1,11 @@
+pub mod Plain
+pub mod Orderly
+pub mod Checks
+pub mod Storing
+pub mod Coding
+pub mod Going
+pub mod Reached
+pub mod Sums
+pub mod Joined
+pub mod Calls
+pub mod Unique

@@ -1,0 +1,89 @@
+-- `bursts::close` meets its contract. A refusal by the checks; else the vector of the block that is held. Assumes nothing.
+use mathlib.Core.Path.{_≡_, refl, sym, ap, _∙_, subst}
+use mathlib.Core.Bool.{true}
+use mathlib.Core.List.{[]}
+use native.Mathlib.Omega.{arith}
+use borrow.Author.Needs.{needs}
+use denote.Ref.{now}
+use lib.ListN.{length}
+use Rattle.receiving.specs.Loop.{heldHanded}
+use Rattle.receiving.specs.Parts.{noneHanded}
+use Rattle.receiving.specs.Counted.{HandedWithin}
+use Rattle.receiving.specs.declared.Handed.{Handed}
+use Rattle.receiving.specs.declared.Receiver.{Receiver}
+use Rattle.receiving.proofs.Counted.{handed-none}
+use Rattle.bursts.specs.Coded.{verdictOf}
+use Rattle.bursts.proofs.Going.{close-passed, last-fits, close-fits, close-length, close-is, close-refused}
+use Rattle.bursts.proofs.close.Statement.{statement}
+use Rattle.bursts.proofs.close.Tie as tie
+
+-- the last vector, counted from nothing on
+counted : (r : Receiver) (start handed : Handed) → handed ≡ heldHanded (r .have) start (r .state) (r .held) true → start ≡ noneHanded
+    → handed ≡ heldHanded (r .have) noneHanded (r .state) (r .held) true
+counted r start handed e f = e ∙ ap (λ (h : Handed). heldHanded (r .have) h (r .state) (r .held) true) f
+
+none-within : (h : Handed) → h ≡ noneHanded → HandedWithin 6600000 h
+none-within h e = subst (HandedWithin 6600000) (sym e) (handed-none 6600000)
+
+judge-requires : tie.Need-judge-requires
+judge-requires c κs = search needs
+
+enum-known-why : tie.Need-enum-known-why
+enum-known-why c = search needs
+
+refused-requires : tie.Need-refused-requires
+refused-requires c κs = search needs
+
+enum-told : tie.Need-enum-told
+enum-told c = search needs
+
+receiver-of-requires : tie.Need-receiver-of-requires
+receiver-of-requires c κs = close-passed (c .before .before .before .before .args .s) (now (c .before .before .before .before .args .room)) (sym (c .before .before .judge .ensures) ∙ ap verdictOf (c .enum-told .given .1)) .good
+
+none-handed-requires : tie.Need-none-handed-requires
+none-handed-requires c κs = search needs
+
+receive-last-requires : tie.Need-receive-last-requires
+receive-last-requires c κs = (last-fits (c .before .before .before .before .before .before .before .args .s) (now (c .before .before .before .before .before .before .before .args .room)) (sym (c .before .before .before .before .before .judge .ensures) ∙ ap verdictOf (c .before .before .before .enum-told .given .1)) (c .before .before .receiver-of .result) (c .before .before .receiver-of .ensures), none-within (c .none-handed .result) (c .none-handed .ensures))
+
+closed-state-requires : tie.Need-closed-state-requires
+closed-state-requires c κs =
+    close-fits (c .before .before .before .before .before .before .before .before .before .before .before .args .s) (now (c .before .before .before .before .before .before .before .before .before .before .before .args .room)) (sym (c .before .before .before .before .before .before .before .before .before .judge .ensures) ∙ ap verdictOf (c .before .before .before .before .before .before .before .enum-told .given .1)) (c .before .before .before .before .before .before .receiver-of .result) (c .before .before .before .before .before .before .receiver-of .ensures) (c .before .before .before .receive-last .result .handed) (counted (c .before .before .before .before .before .before .receiver-of .result) (c .before .before .before .before .none-handed .result) (c .before .before .before .receive-last .result .handed) (c .before .before .before .receive-last .ensures .1) (c .before .before .before .before .none-handed .ensures))
+
+no-counts-requires : tie.Need-no-counts-requires
+no-counts-requires c κs = search needs
+
+accepted-requires : tie.Need-accepted-requires
+accepted-requires c κs = search needs
+
+returns : tie.Need-returns
+returns c = close-refused (c .before .before .before .before .before .before .args .s) [] (now (c .before .before .before .before .before .before .args .room)) _ (c .refused .result) (c .refused .ensures .0) (c .refused .ensures .1) (c .refused .ensures .2) (sym (ap verdictOf (c .before .before .why .given .1)) ∙ c .before .before .before .before .judge .ensures)
+
+same-length : tie.Need-same-length
+same-length c =
+    close-length (c .before .before .before .before .before .before .before .before .before .before .before .before .before .before .args .s) (now (c .before .before .before .before .before .before .before .before .before .before .before .before .before .before .args .room)) (sym (c .before .before .before .before .before .before .before .before .before .before .before .before .judge .ensures) ∙ ap verdictOf (c .before .before .before .before .before .before .before .before .before .before .enum-told .given .1)) (c .before .before .before .before .before .before .before .before .before .receiver-of .result) (c .before .before .before .before .before .before .before .before .before .receiver-of .ensures) (c .before .before .before .before .before .before .receive-last .result .handed) (counted (c .before .before .before .before .before .before .before .before .before .receiver-of .result) (c .before .before .before .before .before .before .before .none-handed .result) (c .before .before .before .before .before .before .receive-last .result .handed) (c .before .before .before .before .before .before .receive-last .ensures .1) (c .before .before .before .before .before .before .before .none-handed .ensures))
+    (c .before .before .before .before .before .before .receive-last .last .0) (c .before .before .before .before .before .before .receive-last .ensures .0)
+
+returns-2 : tie.Need-returns-2
+returns-2 c =
+    close-is (c .before .before .before .before .before .before .before .before .before .before .before .before .before .before .args .s) (now (c .before .before .before .before .before .before .before .before .before .before .before .before .before .before .args .room)) (sym (c .before .before .before .before .before .before .before .before .before .before .before .before .judge .ensures) ∙ ap verdictOf (c .before .before .before .before .before .before .before .before .before .before .enum-told .given .1)) (c .before .before .before .before .before .before .before .before .before .receiver-of .result) (c .before .before .before .before .before .before .before .before .before .receiver-of .ensures) (c .before .before .before .before .before .before .receive-last .result .handed) (counted (c .before .before .before .before .before .before .before .before .before .receiver-of .result) (c .before .before .before .before .before .before .before .none-handed .result) (c .before .before .before .before .before .before .receive-last .result .handed) (c .before .before .before .before .before .before .receive-last .ensures .1) (c .before .before .before .before .before .before .before .none-handed .ensures))
+    (c .before .before .before .before .before .before .receive-last .last .0) (c .before .before .before .before .before .before .receive-last .ensures .0) (c .before .before .closed-state .result) (c .before .before .before .before .before .before .receive-last .result .alone) (c .before .no-counts .result) (c .accepted .result) (c .before .before .closed-state .ensures)
+    (c .before .before .before .before .before .before .receive-last .ensures .2) (c .before .no-counts .ensures) (c .accepted .ensures .0) (c .accepted .ensures .1) (c .accepted .ensures .2)
+
+pub close-spec : {M : Type 1} → statement M
+close-spec =
+    tie.close
+    (tie.spec
+    judge-requires
+    enum-known-why
+    refused-requires
+    enum-told
+    receiver-of-requires
+    none-handed-requires
+    receive-last-requires
+    closed-state-requires
+    no-counts-requires
+    accepted-requires
+    returns
+    same-length
+    returns-2)

@@ -1,0 +1,58 @@
+-- `bursts::meaning::kind_by` meets its contract. By the number, and then by the edition. Assumes nothing.
+use mathlib.Core.Path.{_≡_, refl, sym, ap, _∙_}
+use Prim.Native.Nat.{ℕ, zero, suc}
+use native.Mathlib.Omega.{arith}
+use borrow.Author.Tests.{eq-eqb, ne-eqb}
+use Rattle.block.specs.Block.{editionOf}
+use Rattle.block.specs.declared.Edition.{Edition}
+use Rattle.block.specs.declared.Edition.the-variants.{Old, New}
+use Rattle.block.specs.declared.Kind.{Kind}
+use Rattle.block.specs.declared.Kind.the-variants.{D, C, S, T, E, LI}
+use Rattle.bursts.specs.Meaning.{kindBy}
+use Rattle.bursts.proofs.meaning.kind_by.Statement.{statement}
+use Rattle.bursts.proofs.meaning.kind_by.Tie as tie
+
+-- the first kinds are those of both editions
+both : (ed : Edition) → (kindBy ed 0 ≡ D) × (kindBy ed 1 ≡ C) × (kindBy ed 2 ≡ S) × (kindBy ed 3 ≡ T)
+unfolding kindBy
+both Old = (refl, refl, refl, refl)
+both New = (refl, refl, refl, refl)
+
+-- any other number but 5
+other : (ed : Edition) (n : ℕ) → (n ≡ 0 → ⊥) → (n ≡ 1 → ⊥) → (n ≡ 2 → ⊥) → (n ≡ 3 → ⊥) → (n ≡ 5 → ⊥) → E ≡ kindBy ed n
+unfolding kindBy
+other ed zero a b c d e = absurd (a refl)
+other ed (suc zero) a b c d e = absurd (b refl)
+other ed (suc (suc zero)) a b c d e = absurd (c refl)
+other ed (suc (suc (suc zero))) a b c d e = absurd (d refl)
+other Old (suc (suc (suc (suc zero)))) a b c d e = refl
+other New (suc (suc (suc (suc zero)))) a b c d e = refl
+other ed (suc (suc (suc (suc (suc zero))))) a b c d e = absurd (e refl)
+other Old (suc (suc (suc (suc (suc (suc n)))))) a b c d e = refl
+other New (suc (suc (suc (suc (suc (suc n)))))) a b c d e = refl
+
+returns : tie.Need-returns
+returns c = rw (c .if1 .taken) (sym (both (editionOf (c .before .args .edition)) .0))
+
+returns-2 : tie.Need-returns-2
+returns-2 c = rw (c .if2 .taken) (sym (both (editionOf (c .before .before .args .edition)) .1))
+
+returns-3 : tie.Need-returns-3
+returns-3 c = rw (c .if3 .taken) (sym (both (editionOf (c .before .before .before .args .edition)) .2))
+
+returns-4 : tie.Need-returns-4
+returns-4 c = rw (c .if4 .taken) (sym (both (editionOf (c .before .before .before .before .args .edition)) .3))
+
+returns-5 : tie.Need-returns-5
+returns-5 c = other (editionOf (c .before .before .before .before .before .args .edition)) (c .before .before .before .before .before .args .n) (c .before .before .before .before .if1 .left) (c .before .before .before .if2 .left) (c .before .before .if3 .left) (c .before .if4 .left) (c .if5 .taken)
+
+returns-6 : tie.Need-returns-6
+unfolding kindBy editionOf
+returns-6 c = rw (c .before .if5 .left, eq-eqb _ _ (c .if6 .taken))
+
+returns-7 : tie.Need-returns-7
+unfolding kindBy editionOf
+returns-7 c = rw (c .before .if5 .left, ne-eqb _ _ (c .if6 .left))
+
+pub kind-by-spec : {M : Type 1} → statement M
+kind-by-spec = tie.close (tie.spec returns returns-2 returns-3 returns-4 returns-5 returns-6 returns-7)

@@ -1,0 +1,12 @@
+-- `bursts::no_block` meets its contract. Assumes nothing.
+use mathlib.Core.Path.{refl}
+use Rattle.bursts.specs.Meaning.{keptFor}
+use Rattle.bursts.proofs.no_block.Statement.{statement}
+use Rattle.bursts.proofs.no_block.Tie as tie
+
+returns : tie.Need-returns
+unfolding keptFor
+returns c = refl
+
+pub no-block-spec : {M : Type 1} → statement M
+no-block-spec = tie.close (tie.spec returns)

@@ -1,0 +1,131 @@
+-- Document 02, 2/13: "However the bytes are cut, zero-length bursts too, all the vectors joined and the last summary equal those of one call
+-- over the whole." As types: the proofs are in proofs/.
+use Prim.Native.Nat.{ℕ, _+_, _-_, _*_, _/_, _≤_}
+use mathlib.Core.Path.{_≡_}
+use mathlib.Core.Bool.{false}
+use mathlib.Core.List.{List, [], _∷_, _++_, flatten}
+use lib.ListN.{length, take}
+use Rattle.refusals.specs.First.{accepted}
+use Rattle.block.specs.Block.{editionOf}
+use Rattle.receiving.specs.Receive.{judgedAlone, receivedVectors}
+use Rattle.receiving.specs.Parts.{noCounts, plus, noneHanded, plusHanded, bytesOf}
+use Rattle.receiving.specs.Answer.{ReceiveAnswer, received, summaryOf, answerOf, Receives}
+use Rattle.receiving.specs.Answer as Answer
+use Rattle.receiving.specs.declared.Summary.{Summary}
+use Rattle.receiving.specs.declared.Received.{Received}
+use Rattle.bursts.specs.declared.State.{State}
+use Rattle.bursts.specs.declared.Added.{Added}
+use Rattle.bursts.specs.declared.Reply.{Reply}
+use Rattle.bursts.specs.Judging.{badState, roomFor, burstVerdict}
+use Rattle.bursts.specs.Burst.{stateFresh, BeginAnswer, begun, beginAnswer, burstBytes, burstAdded, burstState, closeJudged, closeAdded, closeState, summaryIn, Called, atStart, burstCall, closeCall, Replies}
+
+-- what two calls added
+abbrev pub plusAdded : Added → Added → Added
+plusAdded a b = record { counts = plus (a .counts) (b .counts); handed = plusHanded (a .handed) (b .handed) }
+
+-- nothing
+abbrev pub noneAdded : Added
+noneAdded = record { counts = noCounts; handed = noneHanded }
+
+-- what a summary counts
+abbrev pub addedIn : Summary → Added
+addedIn s = record { counts = s .counts; handed = s .handed }
+
+-- ---- over the bursts themselves
+
+-- the state after them, the bytes of their vectors, joined, and what they added
+unfoldable pub stateOver : State → List (List ℕ) → State
+stateOver s [] = s
+stateOver s (b ∷ bs) = stateOver (burstState s b) bs
+
+unfoldable pub bytesOver : State → List (List ℕ) → List ℕ
+bytesOver s [] = []
+bytesOver s (b ∷ bs) = burstBytes s b ++ bytesOver (burstState s b) bs
+
+unfoldable pub addedOver : State → List (List ℕ) → Added
+addedOver s [] = noneAdded
+addedOver s (b ∷ bs) = plusAdded (burstAdded s b) (addedOver (burstState s b) bs)
+
+-- with the closing call, the vectors, the last summary and what was added are those of the joined line
+abbrev pub Cut : Type 0
+Cut =
+    (edition : ℕ) (bursts : List (List ℕ))
+    → let s = stateOver (stateFresh edition) bursts in
+    let one = summaryOf (editionOf edition) (flatten bursts) in
+    (bytesOver (stateFresh edition) bursts ++ bytesOf (closeJudged s) ≡ receivedVectors (editionOf edition) (flatten bursts))
+    × (summaryIn (closeState s) (judgedAlone (closeJudged s)) ≡ one)
+    × (plusAdded (addedOver (stateFresh edition) bursts) (closeAdded s) ≡ addedIn one)
+
+-- ---- over calls, any of which may be refused
+
+-- a call with the room that is lent to it
+pub data Call : Type 0 where
+  burst : (line room : List ℕ) → Call
+  close : (room : List ℕ) → Call
+
+abbrev pub callOf : State → Call → Called
+callOf s (burst line room) = burstCall s line room
+callOf s (close room) = closeCall s room
+
+-- a call that was made: what it handed back, and what it left in the room
+pub record Made : Type 0 where
+  pub call : Call
+  pub reply : Reply
+  pub room : List ℕ
+
+-- calls one after the other, each with the state that the one before it handed back, and each by its promise
+abbrev pub Follow : State → List Made → Type 0
+Follow s [] = Unit
+Follow s (m ∷ ms) = Replies (callOf s (m .call)) (m .reply) (m .room) × Follow (m .reply .state) ms
+
+-- what a caller then has: the state; the line bytes that were taken; the vectors, as many of each call as its state counts more; and what
+-- was added
+abbrev pub takenOf : Call → ReceiveAnswer → List ℕ
+takenOf (burst line room) (received summary) = line
+takenOf (burst line room) (Answer.refused number place) = []
+takenOf (close room) answer = []
+
+abbrev pub givenBy : State → Reply → (room : List ℕ) → List ℕ
+givenBy s r room = take (10 * (r .state .vectors - s .vectors)) room
+
+unfoldable pub stateAfter : State → List Made → State
+stateAfter s [] = s
+stateAfter s (m ∷ ms) = stateAfter (m .reply .state) ms
+
+unfoldable pub lineAfter : List Made → List ℕ
+lineAfter [] = []
+lineAfter (m ∷ ms) = takenOf (m .call) (answerOf (m .reply .answer)) ++ lineAfter ms
+
+unfoldable pub bytesAfter : State → List Made → List ℕ
+bytesAfter s [] = []
+bytesAfter s (m ∷ ms) = givenBy s (m .reply) (m .room) ++ bytesAfter (m .reply .state) ms
+
+unfoldable pub addedAfter : List Made → Added
+addedAfter [] = noneAdded
+addedAfter (m ∷ ms) = plusAdded (m .reply .added) (addedAfter ms)
+
+-- Once a closing call is accepted, after any calls from a fresh state: its summary, all the vectors joined and what was added are those of
+-- one call of `receive` over the bytes that were taken, in any room that it takes.
+abbrev pub Whole : Type 0
+Whole =
+    (edition : ℕ) (s : State) → beginAnswer edition ≡ begun s
+    → (ms : List Made) → Follow s ms
+    → (room room′ : List ℕ) (r : Reply) → Replies (closeCall (stateAfter s ms) room) r room′
+    → (last : Summary) → answerOf (r .answer) ≡ received last
+    → (wide wide′ : List ℕ) (one : Received) → Receives edition (lineAfter ms) wide one wide′ → 10 * (8 * length (lineAfter ms) / 66) ≤ length wide
+    → (answerOf one ≡ received last)
+    × (wide′ ≡ atStart (bytesAfter s ms ++ givenBy (stateAfter s ms) r room′) wide)
+    × (plusAdded (addedAfter ms) (r .added) ≡ addedIn last)
+
+-- "a handed-in state .. and given for nothing else": what a fresh state leads to is never refused with 10
+abbrev pub NeverBad : Type 0
+NeverBad = (edition : ℕ) (s : State) → beginAnswer edition ≡ begun s → (ms : List Made) → Follow s ms → badState (stateAfter s ms) ≡ false
+
+-- "may be sent again with more room": before an accepted closing call, any call is accepted whose bytes keep the sum within the limit and that
+-- is lent the room that is asked for. Its state is that after the accepted calls, whatever was refused between them.
+abbrev pub Accepts : Type 0
+Accepts =
+    (edition : ℕ) (s : State) → beginAnswer edition ≡ begun s
+    → (ms : List Made) → Follow s ms → stateAfter s ms .closed ≡ false
+    → (line room : ℕ) → length (lineAfter ms) + line ≤ 825000 → roomFor (stateAfter s ms) line ≤ room
+    → burstVerdict (stateAfter s ms) line room ≡ accepted

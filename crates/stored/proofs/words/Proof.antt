@@ -1,0 +1,37 @@
+-- `stored::words` meets its contract. Assumes nothing.
+use borrow.Author.Needs.{needs}
+use Rattle.stored.proofs.words.Statement.{statement}
+use Rattle.stored.proofs.words.Tie as tie
+
+flag-requires : tie.Need-flag-requires
+flag-requires c κs = search needs
+
+flag-requires-2 : tie.Need-flag-requires-2
+flag-requires-2 c κs = search needs
+
+flag-requires-3 : tie.Need-flag-requires-3
+flag-requires-3 c κs = search needs
+
+flag-requires-4 : tie.Need-flag-requires-4
+flag-requires-4 c κs = search needs
+
+flag-requires-5 : tie.Need-flag-requires-5
+flag-requires-5 c κs = search needs
+
+flag-requires-6 : tie.Need-flag-requires-6
+flag-requires-6 c κs = search needs
+
+returns : tie.Need-returns
+returns c = rw (c .before .before .before .before .before .flag .ensures, c .before .before .before .before .flag2 .ensures, c .before .before .before .flag3 .ensures, c .before .before .flag4 .ensures, c .before .flag5 .ensures, c .flag6 .ensures)
+
+pub words-spec : {M : Type 1} → statement M
+words-spec =
+    tie.close
+    (tie.spec
+    flag-requires
+    flag-requires-2
+    flag-requires-3
+    flag-requires-4
+    flag-requires-5
+    flag-requires-6
+    returns)
