@@ -16,7 +16,7 @@ ghost use mathlib.Core.List.{_++_};
 ghost use Prim.Native.Nat.{_+_, _*_, _/_, _≤_, _<_};
 ghost use lib.ListN.{length, take, drop};
 ghost use Rattle.block.specs.Block.{editionOf};
-ghost use Rattle.tables.specs.Tables.{tables, types};
+ghost use Rattle.tables.specs.Tables.{decodeTables, types};
 ghost use Rattle.carrying.specs.Carrying.{Sound};
 ghost use Rattle.receiving.specs.Answer.{Receives};
 ghost use Rattle.receiving.specs.Ranges.{InRange};
@@ -108,8 +108,8 @@ pub struct LastVector {
 
 // One turn: a whole block of the line, the bits that the carried one lacks, or a bit that is skipped. A block that is full is tested, and
 // the one held before it is answered.
-fn turn(t: &[u16; 3170], y: &[u8; 256], line: &[u8], room: &mut [u8], p: Progress) -> Progress
-    requires { ⌜ ((now t ≡ tables (p .receiver .link .edition)) × (now y ≡ types)) × (length (now line) ≤ 825000) × Under (now line) (now room) p × (p .pos < 8 * length (now line)) ⌝ }
+fn turn(t: &[u16; 946], y: &[u8; 256], line: &[u8], room: &mut [u8], p: Progress) -> Progress
+    requires { ⌜ ((now t ≡ decodeTables (p .receiver .link .edition)) × (now y ≡ types)) × (length (now line) ≤ 825000) × Under (now line) (now room) p × (p .pos < 8 * length (now line)) ⌝ }
     ensures { λ r. ⌜ Turns (now (line .entry)) (now (room .entry)) (now (room .exit)) p r ⌝ }
 {
     let r = p.receiver;
@@ -166,13 +166,13 @@ fn turn(t: &[u16; 3170], y: &[u8; 256], line: &[u8], room: &mut [u8], p: Progres
 // A receiver over all bits of the line, from a receiver as it stands: the vectors go to the room, but for that of the last block,
 // which is held.
 fn receive_bits(
-    t: &[u16; 3170],
+    t: &[u16; 946],
     y: &[u8; 256],
     line: &[u8],
     room: &mut [u8],
     start: Receiver,
 ) -> Progress
-    requires { ⌜ ((now t ≡ tables (start .link .edition)) × (now y ≡ types)) × (length (now line) ≤ 825000) × InRange (start .link) × Sound (start .carried) × (length (written start (now line)) ≤ length (now room)) ⌝ }
+    requires { ⌜ ((now t ≡ decodeTables (start .link .edition)) × (now y ≡ types)) × (length (now line) ≤ 825000) × InRange (start .link) × Sound (start .carried) × (length (written start (now line)) ≤ length (now room)) ⌝ }
     ensures { λ p. ⌜ Ends (now (line .entry)) (now (room .entry)) (now (room .exit)) start p ⌝ }
 {
     let bits = line.len() * 8;
@@ -206,7 +206,7 @@ pub fn receive_more(line: &[u8], room: &mut [u8], start: Receiver) -> Progress
 {
     let link = start.link;
     let edition = link.edition;
-    let t = tables::block_tables(edition);
+    let t = tables::decode_tables(edition);
     let y = tables::type_table();
     receive_bits(&t, &y, line, room, start)
 }
@@ -267,13 +267,13 @@ fn fresh(edition: Edition) -> Receiver
 
 // Receiving in a known edition with its lent tables, those of the crate tables: a fresh receiver, one part of a line and the end.
 fn receive_with(
-    t: &[u16; 3170],
+    t: &[u16; 946],
     y: &[u8; 256],
     edition: u64,
     line: &[u8],
     room: &mut [u8],
 ) -> Received
-    requires { ⌜ (now t ≡ tables (editionOf edition)) × (now y ≡ types) × (edition ≤ 1) ⌝ }
+    requires { ⌜ (now t ≡ decodeTables (editionOf edition)) × (now y ≡ types) × (edition ≤ 1) ⌝ }
     ensures { λ r. ⌜ Receives edition (now (line .entry)) (now (room .entry)) r (now (room .exit)) ⌝ }
 {
     if 825000 < line.len() {
@@ -307,7 +307,7 @@ pub fn receive(edition: u64, line: &[u8], room: &mut [u8]) -> Received
     if 1 < edition {
         return Received::Refused(Refusal::UnknownEdition, 0);
     }
-    let t = tables::block_tables(tables::edition_of(edition));
+    let t = tables::decode_tables(tables::edition_of(edition));
     let y = tables::type_table();
     receive_with(&t, &y, edition, line, room)
 }

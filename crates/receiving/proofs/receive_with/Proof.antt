@@ -5,7 +5,7 @@ use borrow.Author.Needs.{needs}
 use denote.Ref.{now}
 use lib.ListN.{length, drop}
 use Rattle.block.specs.declared.Edition.{Edition}
-use Rattle.tables.specs.Tables.{tables}
+use Rattle.tables.specs.Tables.{decodeTables}
 use Rattle.receiving.specs.Receive.{receivedVectors}
 use Rattle.receiving.specs.Answer.{received, summaryOf}
 use native.Mathlib.Omega.{arith}
@@ -37,7 +37,7 @@ receive-bits-requires : tie.Need-receive-bits-requires
 receive-bits-requires c κs =
     let pre = c .before .before .before .before .before .before .before .pre in
     let args = c .before .before .before .before .before .before .before .args in
-    ((pre .0 ∙ ap tables (sym (fresh-edition _ (c .fresh .result) (c .fresh .ensures) ∙ c .before .edition-of .ensures)), pre .1), c .before .before .before .before .if1 .left, c .fresh .ensures .range, c .fresh .ensures .sound, written-fits (c .before .edition-of .result) (now (args .line)) (now (args .room)) (c .fresh .result) (c .fresh .ensures) (c .before .before .before .if2 .left))
+    ((pre .0 ∙ ap decodeTables (sym (fresh-edition _ (c .fresh .result) (c .fresh .ensures) ∙ c .before .edition-of .ensures)), pre .1), c .before .before .before .before .if1 .left, c .fresh .ensures .range, c .fresh .ensures .sound, written-fits (c .before .edition-of .result) (now (args .line)) (now (args .room)) (c .fresh .result) (c .fresh .ensures) (c .before .before .before .if2 .left))
 
 receive-last-requires : tie.Need-receive-last-requires
 receive-last-requires c κs =
