@@ -47,8 +47,8 @@ extern "C" {
 #define HOLZMOTTE_VERSION_PATCH 0
 #define HOLZMOTTE_VERSION "0.6.0"
 
-/* So much stack is enough for a call. This is tested, not proved: measured on x86-64, sending takes up to 7.0 KB and receiving up to
- * 7.5 KB; an earlier version took 7.5 KB and 7.2 KB on 64-bit Arm. */
+/* So much stack is enough for a call. This is tested, not proved: measured on x86-64, sending takes up to 5.0 KB and receiving up to
+ * 2.9 KB; an earlier version took 7.5 KB and 7.2 KB on 64-bit Arm. */
 #define HOLZMOTTE_STACK_BYTES 16384
 
 /* Sizes, in bytes. */

@@ -66,21 +66,20 @@ for kind, lead, y, fields in ROWS:
     low.append(sum((found[p][0] != 'd') << p for p in range(4)))
     high.append(sum((found[p + 4][0] != 'd') << p for p in range(4)))
 flags = [a + 16 * b for a, b in zip(low, high)]
-parts = [('the octets of ' + name, [octet(s, v) for v in range(2 ** WIDTH[s])]) for s, name in zip(SLOTS, NAMES)]
 notes = {'the octets of ' + name: note for name, note in zip(NAMES, ['', ' // control code %02x', ' // in type 1e control code %02x', ' // ordered set code %x', '', '']) if note}
-parts += [('for each character of each row: the place of its field', shift),
-          ('the mask of its field', mask),
-          ('where the octets of its slot begin', base),
-          ('for each row: its first control byte', low),
-          ('its second control byte', high),
-          ('its kind', ['DCST'.index(r[0]) for r in ROWS]),
-          ('its type', [r[2] for r in ROWS]),
-          ('for each field of each row: where its octet stands among eight', lane),
-          ('where the codes of its slot begin', start),
-          ('its place', at),
-          ('for each pair of control bytes: the first row that has them', [(flags + [m]).index(m) for m in range(256)]),
-          ('for each row: the next with its control bytes', [r + 1 + (flags[r + 1:] + [flags[r]]).index(flags[r]) for r in range(16)])]
-parts += [('the codes of ' + name, [code(s, o) for o in range(256)]) for s, name in zip(SLOTS, NAMES)]
+decode = [('the octets of ' + name, [octet(s, v) for v in range(2 ** WIDTH[s])]) for s, name in zip(SLOTS, NAMES)]
+decode += [('for each character of each row: the place of its field', shift),
+           ('the mask of its field', mask),
+           ('where the octets of its slot begin', base),
+           ('for each row: its first control byte', low),
+           ('its second control byte', high)]
+encode = [('the codes of ' + name, [code(s, o) for o in range(256)]) for s, name in zip(SLOTS, NAMES)]
+encode += [('for each field of each row: where its octet stands among eight', lane),
+           ('where the codes of its slot begin', start),
+           ('its place', at),
+           ('for each row: its type', [r[2] for r in ROWS]),
+           ('for each pair of control bytes: the first row that has them', [(flags + [m]).index(m) for m in range(256)]),
+           ('for each row: the next with its control bytes', [r + 1 + (flags[r + 1:] + [flags[r]]).index(flags[r]) for r in range(16)])]
 
 print('// The tables, as tools/tables.py prints them. Each is compared with its rule.')
 print()
@@ -89,13 +88,14 @@ print('pub const TYPES: [u8; 256] = [')
 for y, r in enumerate(types):
     print('    %d, // %02x' % (r, y))
 print('];')
-print()
-print('// The other tables, one after the other.')
-print('pub const TABLES: [u16; %d] = [' % sum(len(values) for _, values in parts))
-place = 0
-for name, values in parts:
-    print('    // %d: %s' % (place, name))
-    for i, value in enumerate(values):
-        print('    %d,' % value + (notes[name] % i if name in notes else ''))
-    place += len(values)
-print('];')
+for const, purpose, parts in [('DECODE', 'decoding', decode), ('ENCODE', 'encoding', encode)]:
+    print()
+    print('// The tables for %s, one after the other.' % purpose)
+    print('pub const %s: [u16; %d] = [' % (const, sum(len(values) for _, values in parts)))
+    place = 0
+    for name, values in parts:
+        print('    // %d: %s' % (place, name))
+        for i, value in enumerate(values):
+            print('    %d,' % value + (notes[name] % i if name in notes else ''))
+        place += len(values)
+    print('];')

@@ -13,7 +13,7 @@ use Rattle.block.specs.Block.{Slot, Control, Calm, Data, Set, Start, Terminate,
 use Rattle.block.specs.Rows.{width, fieldAt, placeAt, row}
 use Rattle.block.proofs.Formats.{blind, sound-width, sound-place, row-sound}
 use Rattle.block.proofs.Reading.{placeOf, read-at}
-use Rattle.tables.specs.Tables.{editionIn, Lent, octetsFrom}
+use Rattle.tables.specs.Tables.{editionIn, LentToDecode, octetsFrom}
 use Rattle.tables.proofs.Entries.{shift-at, mask-at, base-at, octet-of}
 use Rattle.decoding.specs.Parts.{octetBy}
 
@@ -48,7 +48,7 @@ module _ (ed : Edition) where
   looked Start a w x e h = refl
   looked Terminate a w x e h = refl
 
-module _ (t : List ℕ) (e : Lent t) (r p : ℕ) (hr : r < 16) (hp : p < 8) where
+module _ (t : List ℕ) (e : LentToDecode t) (r p : ℕ) (hr : r < 16) (hp : p < 8) where
   slot : Slot
   slot = fieldAt (row r .fields) p .slot
 

@@ -3,7 +3,7 @@ ghost use mathlib.Core.Path.{_≡_};
 ghost use Prim.Native.Nat.{_+_, _<_, _≤_};
 ghost use Rattle.block.specs.Block.{errorVector, decodedBy, decoded, good, classBy, classOf, kindIn};
 ghost use Rattle.block.specs.Rows.{row};
-ghost use Rattle.tables.specs.Tables.{types, editionIn, Lent};
+ghost use Rattle.tables.specs.Tables.{types, editionIn, LentToDecode};
 ghost use Rattle.decoding.specs.Vector.{vectorBytes};
 ghost use Rattle.decoding.specs.Parts.{octetBy, lanesBy, overBy, badBy};
 use block::Class;
@@ -77,8 +77,8 @@ struct Half {
 }
 
 // The octet of character p of a block of row r, not below 256 where its bits are not valid.
-fn character(t: &[u16; 3170], r: usize, p: usize, x: u64) -> u16
-    requires { ⌜ (r < 16) × (p < 8) × Lent (now t) ⌝ }
+fn character(t: &[u16; 946], r: usize, p: usize, x: u64) -> u16
+    requires { ⌜ (r < 16) × (p < 8) × LentToDecode (now t) ⌝ }
     ensures { λ z. ⌜ z ≡ octetBy (editionIn (now (t .entry))) r x p ⌝ }
 {
     let k = 8 * r + p;
@@ -90,8 +90,8 @@ fn character(t: &[u16; 3170], r: usize, p: usize, x: u64) -> u16
 }
 
 // Four characters from p on.
-fn four(t: &[u16; 3170], r: usize, p: usize, x: u64) -> Half
-    requires { ⌜ (r < 16) × (p + 3 < 8) × Lent (now t) ⌝ }
+fn four(t: &[u16; 946], r: usize, p: usize, x: u64) -> Half
+    requires { ⌜ (r < 16) × (p + 3 < 8) × LentToDecode (now t) ⌝ }
     ensures { λ z. ⌜ (z .lanes ≡ lanesBy (octetBy (editionIn (now (t .entry))) r x p) (octetBy (editionIn (now (t .entry))) r x (p + 1)) (octetBy (editionIn (now (t .entry))) r x (p + 2)) (octetBy (editionIn (now (t .entry))) r x (p + 3))) × (z .over ≡ overBy (octetBy (editionIn (now (t .entry))) r x p) (octetBy (editionIn (now (t .entry))) r x (p + 1)) (octetBy (editionIn (now (t .entry))) r x (p + 2)) (octetBy (editionIn (now (t .entry))) r x (p + 3))) × (z .bad ≡ badBy (octetBy (editionIn (now (t .entry))) r x p) (octetBy (editionIn (now (t .entry))) r x (p + 1)) (octetBy (editionIn (now (t .entry))) r x (p + 2)) (octetBy (editionIn (now (t .entry))) r x (p + 3))) × (z .over < 1024) × (z .bad ≤ 4) ⌝ }
 {
     let a = character(t, r, p, x);
@@ -109,8 +109,8 @@ fn four(t: &[u16; 3170], r: usize, p: usize, x: u64) -> Half
 }
 
 // A block of row r.
-fn decode_row(t: &[u16; 3170], r: usize, x: u64) -> Decoded
-    requires { ⌜ (r < 16) × Lent (now t) ⌝ }
+fn decode_row(t: &[u16; 946], r: usize, x: u64) -> Decoded
+    requires { ⌜ (r < 16) × LentToDecode (now t) ⌝ }
     ensures { λ z. ⌜ (z .class ≡ classBy (editionIn (now (t .entry))) (row r) x) × (vectorBytes (z .vector) ≡ decodedBy (editionIn (now (t .entry))) (row r) x) ⌝ }
 {
     let a = four(t, r, 0, x);
@@ -119,7 +119,7 @@ fn decode_row(t: &[u16; 3170], r: usize, x: u64) -> Decoded
         let c0 = (t[tables::LOW + r] % 256) as u8;
         let c1 = (t[tables::HIGH + r] % 256) as u8;
         return Decoded {
-            class: good_class(tables::kind_of(t, r, c0, a.lanes, c1, b.lanes)),
+            class: good_class(tables::kind_of(r, c0, a.lanes, c1, b.lanes)),
             vector: Vector {
                 c0: c0,
                 d0: a.lanes,
@@ -135,8 +135,8 @@ fn decode_row(t: &[u16; 3170], r: usize, x: u64) -> Decoded
 }
 
 // A block with this header (its two bits as a number, block bit 0 the lower) and payload. The tables are those of the crate tables.
-pub fn decode(t: &[u16; 3170], y: &[u8; 256], header: u64, payload: u64) -> Decoded
-    requires { ⌜ Lent (now t) × (now y ≡ types) ⌝ }
+pub fn decode(t: &[u16; 946], y: &[u8; 256], header: u64, payload: u64) -> Decoded
+    requires { ⌜ LentToDecode (now t) × (now y ≡ types) ⌝ }
     ensures { λ r. ⌜ (r .class ≡ classOf (editionIn (now (t .entry))) header payload) × (vectorBytes (r .vector) ≡ decoded (editionIn (now (t .entry))) header payload) ⌝ }
 {
     if header == 2 {
@@ -208,7 +208,7 @@ pub fn bytes_of(v: Vector) -> [u8; 10]
 pub fn decode_block(edition: Edition, header: u8, payload: u64, out: &mut [u8; 10]) -> Class
     ensures { λ c. ⌜ (c ≡ classOf edition header payload) × (now (out .exit) ≡ decoded edition header payload) ⌝ }
 {
-    let t = tables::block_tables(edition);
+    let t = tables::decode_tables(edition);
     let y = tables::type_table();
     let d = decode(&t, &y, header as u64, payload);
     let v = d.vector;

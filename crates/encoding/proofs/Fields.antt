@@ -14,7 +14,7 @@ use Rattle.block.specs.Block.{Slot, Control, Calm, Data, Set, Start, Terminate,
 use Rattle.block.specs.Rows.{width, row, SameFlags}
 use Rattle.block.proofs.Tests.{all, holds, each, at, eight}
 use Rattle.block.proofs.Reading.{flags-same}
-use Rattle.tables.specs.Tables.{editionIn, Lent, fieldIn, placeIn, codesFrom}
+use Rattle.tables.specs.Tables.{editionIn, LentToEncode, fieldIn, placeIn, codesFrom}
 use Rattle.tables.proofs.Entries.{lane-at, from-at, place-at, code-of}
 use Rattle.encoding.specs.Parts.{spread, fieldCode}
 
@@ -74,31 +74,31 @@ module _ (r i : ℕ) (hr : r < 16) (hi : i < 8) where
       (eq-eqb (flagOf (spread c0 c1 lanes) (fieldIn r i .char)) (controlBit (fieldIn r i .slot)) (flags-same (spread c0 c1 lanes) (row r) e (fieldIn r i .char) char-lt ∙ own-flag))
       ∙ ap (codeOf ed (fieldIn r i .slot)) (lane-of c0 c1 lanes (fieldIn r i .char) char-lt)
 
-  module _ (t : List ℕ) (e : Lent t) where
-    lane-is : getD t (978 + (8 * r + i)) 0 ≡ 8 * fieldIn r i .char
+  module _ (t : List ℕ) (e : LentToEncode t) where
+    lane-is : getD t (1536 + (8 * r + i)) 0 ≡ 8 * fieldIn r i .char
     lane-is = lane-at t e (8 * r + i) (omega arith) ∙ ap₂ (λ (a b : ℕ). 8 * fieldIn a b .char) quot rest
 
-    from-is : getD t (1106 + (8 * r + i)) 0 ≡ codesFrom (fieldIn r i .slot)
+    from-is : getD t (1664 + (8 * r + i)) 0 ≡ codesFrom (fieldIn r i .slot)
     from-is = from-at t e (8 * r + i) (omega arith) ∙ ap₂ (λ (a b : ℕ). codesFrom (fieldIn a b .slot)) quot rest
 
-    place-is : getD t (1234 + (8 * r + i)) 0 ≡ placeIn r i % 64
+    place-is : getD t (1792 + (8 * r + i)) 0 ≡ placeIn r i % 64
     place-is = place-at t e (8 * r + i) (omega arith) ∙ ap₂ (λ (a b : ℕ). placeIn a b % 64) quot rest
 
-    pub lane-lt : getD t (978 + (8 * r + i)) 0 < 64
+    pub lane-lt : getD t (1536 + (8 * r + i)) 0 < 64
     lane-lt = omega (arith, lane-is, char-lt)
 
-    pub from-le : getD t (1106 + (8 * r + i)) 0 ≤ 1280
+    pub from-le : getD t (1664 + (8 * r + i)) 0 ≤ 1280
     from-le = omega (arith, from-is, codes-le (fieldIn r i .slot))
 
-    pub place-lt : getD t (1234 + (8 * r + i)) 0 < 64
+    pub place-lt : getD t (1792 + (8 * r + i)) 0 < 64
     place-lt = omega (arith, place-is)
 
-    pub code-is : (lanes : ℕ) → getD t (1634 + getD t (1106 + (8 * r + i)) 0 + lanes / 2 ^ getD t (978 + (8 * r + i)) 0 % 256) 0 ≡ fieldCode (editionIn t) r i lanes
+    pub code-is : (lanes : ℕ) → getD t (getD t (1664 + (8 * r + i)) 0 + lanes / 2 ^ getD t (1536 + (8 * r + i)) 0 % 256) 0 ≡ fieldCode (editionIn t) r i lanes
     code-is lanes =
-        ap₂ (λ (f l : ℕ). getD t (1634 + f + lanes / 2 ^ l % 256) 0) from-is lane-is
+        ap₂ (λ (f l : ℕ). getD t (f + lanes / 2 ^ l % 256) 0) from-is lane-is
         ∙ code-of (fieldIn r i .slot) t e (lanes / 2 ^ (8 * fieldIn r i .char) % 256) (omega arith)
 
-    pub placed-is : (code : ℕ) → code < 2 ^ fieldIn r i .bits → code * 2 ^ getD t (1234 + (8 * r + i)) 0 % 2 ^ 64 ≡ 2 ^ placeIn r i * code
+    pub placed-is : (code : ℕ) → code < 2 ^ fieldIn r i .bits → code * 2 ^ getD t (1792 + (8 * r + i)) 0 % 2 ^ 64 ≡ 2 ^ placeIn r i * code
     placed-is code h = go (ltb (placeIn r i) 64) refl
       where
         zeroed : 64 ≤ placeIn r i → code ≡ 0
@@ -107,13 +107,13 @@ module _ (r i : ℕ) (hr : r < 16) (hi : i < 8) where
             let w : code < 1 = subst (λ (m : ℕ). code < 2 ^ m) b h in
             omega arith
 
-        go : (b : Bool) → ltb (placeIn r i) 64 ≡ b → code * 2 ^ getD t (1234 + (8 * r + i)) 0 % 2 ^ 64 ≡ 2 ^ placeIn r i * code
+        go : (b : Bool) → ltb (placeIn r i) 64 ≡ b → code * 2 ^ getD t (1792 + (8 * r + i)) 0 % 2 ^ 64 ≡ 2 ^ placeIn r i * code
         go true q =
             ap (λ (m : ℕ). code * 2 ^ m % 2 ^ 64) (place-is ∙ mod-eq-of-lt (ltb-true (placeIn r i) 64 q))
             ∙ shl-exact (fieldIn r i .bits) (placeIn r i) 64 h (omega (arith, place-le))
             ∙ mul-comm code (2 ^ placeIn r i)
         go false q =
             let z : code ≡ 0 = zeroed (ltb-false (placeIn r i) 64 q) in
-            ap (λ (m : ℕ). m * 2 ^ getD t (1234 + (8 * r + i)) 0 % 2 ^ 64) z
-            ∙ ap (λ (m : ℕ). m % 2 ^ 64) (zero-mul (2 ^ getD t (1234 + (8 * r + i)) 0))
+            ap (λ (m : ℕ). m * 2 ^ getD t (1792 + (8 * r + i)) 0 % 2 ^ 64) z
+            ∙ ap (λ (m : ℕ). m % 2 ^ 64) (zero-mul (2 ^ getD t (1792 + (8 * r + i)) 0))
             ∙ sym (ap (λ (m : ℕ). 2 ^ placeIn r i * m) z ∙ mul-zero (2 ^ placeIn r i))

@@ -5,7 +5,7 @@ ghost use Prim.Native.Nat.{_+_, _*_, _<_, _≤_, _^_};
 ghost use lib.ListN.{length};
 ghost use Rattle.block.specs.Block.{twoWords, carrier, encodeAnswer};
 ghost use Rattle.block.specs.Rows.{row, SameFlags};
-ghost use Rattle.tables.specs.Tables.{editionIn, Lent, fieldIn, placeIn};
+ghost use Rattle.tables.specs.Tables.{editionIn, LentToEncode, fieldIn, placeIn};
 ghost use Rattle.encoding.specs.Answer.{codedOf, answerOf};
 ghost use Rattle.encoding.specs.Parts.{spread, fieldCode, sumBy, lanesAt, encodedOf};
 use block::Edition;
@@ -33,20 +33,20 @@ struct Sum {
 }
 
 // The code of field i of row r for its octet of the eight, not below 256 where it has none.
-fn field_code(t: &[u16; 3170], r: usize, i: usize, lanes: u64) -> u16
-    requires { ⌜ (r < 16) × (i < 8) × Lent (now t) ⌝ }
+fn field_code(t: &[u16; 2208], r: usize, i: usize, lanes: u64) -> u16
+    requires { ⌜ (r < 16) × (i < 8) × LentToEncode (now t) ⌝ }
     ensures { λ z. ⌜ z ≡ fieldCode (editionIn (now (t .entry))) r i lanes ⌝ }
 {
     let k = 8 * r + i;
     let lane = t[tables::LANE + k];
     let from = t[tables::FROM + k];
     let octet = (lanes >> lane) % 256;
-    t[tables::CODES + from as usize + octet as usize]
+    t[from as usize + octet as usize]
 }
 
 // A code at the place of field i of row r.
-fn placed(t: &[u16; 3170], r: usize, i: usize, code: u64) -> u64
-    requires { ⌜ (r < 16) × (i < 8) × (code < 2 ^ fieldIn r i .bits) × Lent (now t) ⌝ }
+fn placed(t: &[u16; 2208], r: usize, i: usize, code: u64) -> u64
+    requires { ⌜ (r < 16) × (i < 8) × (code < 2 ^ fieldIn r i .bits) × LentToEncode (now t) ⌝ }
     ensures { λ z. ⌜ z ≡ 2 ^ placeIn r i * code ⌝ }
 {
     let k = 8 * r + i;
@@ -55,8 +55,8 @@ fn placed(t: &[u16; 3170], r: usize, i: usize, code: u64) -> u64
 }
 
 // The payload of row r, whose control bits are the vector's; c0 and c1 say which vector the lanes belong to.
-fn pack(t: &[u16; 3170], r: usize, c0: u8, c1: u8, lanes: u64) -> Sum
-    requires { ⌜ (r < 16) × SameFlags (spread c0 c1 lanes) (row r) × Lent (now t) ⌝ }
+fn pack(t: &[u16; 2208], r: usize, c0: u8, c1: u8, lanes: u64) -> Sum
+    requires { ⌜ (r < 16) × SameFlags (spread c0 c1 lanes) (row r) × LentToEncode (now t) ⌝ }
     ensures { λ z. ⌜ z ≡ sumBy (editionIn (now (t .entry))) (spread c0 c1 lanes) (row r) ⌝ }
 {
     let mut payload = t[tables::TYPE + r] as u64;
@@ -79,8 +79,8 @@ fn pack(t: &[u16; 3170], r: usize, c0: u8, c1: u8, lanes: u64) -> Sum
 }
 
 // A vector with a control character: the rows with its control bits are tried one after the other.
-fn encode_rows(t: &[u16; 3170], c0: u8, c1: u8, lanes: u64) -> Coded
-    requires { ⌜ (c0 ≤ 15) × (c1 ≤ 15) × (0 < c0 + 16 * c1) × Lent (now t) ⌝ }
+fn encode_rows(t: &[u16; 2208], c0: u8, c1: u8, lanes: u64) -> Coded
+    requires { ⌜ (c0 ≤ 15) × (c1 ≤ 15) × (0 < c0 + 16 * c1) × LentToEncode (now t) ⌝ }
     ensures { λ z. ⌜ z ≡ codedOf (carrier (editionIn (now (t .entry))) (spread c0 c1 lanes)) ⌝ }
 {
     let m = c0 as usize + 16 * (c1 as usize);
@@ -90,7 +90,6 @@ fn encode_rows(t: &[u16; 3170], c0: u8, c1: u8, lanes: u64) -> Coded
         if s.fits {
             return Coded {
                 kind: tables::kind_of(
-                    t,
                     r,
                     c0,
                     (lanes % 4294967296) as u32,
@@ -111,8 +110,8 @@ fn encode_rows(t: &[u16; 3170], c0: u8, c1: u8, lanes: u64) -> Coded
 }
 
 // A vector as two words: control bytes and lanes, lane 0 lowest. The tables are those of the crate tables.
-pub fn encode(t: &[u16; 3170], c0: u8, d0: u32, c1: u8, d1: u32) -> Coded
-    requires { ⌜ (c0 ≤ 15) × (c1 ≤ 15) × Lent (now t) ⌝ }
+pub fn encode(t: &[u16; 2208], c0: u8, d0: u32, c1: u8, d1: u32) -> Coded
+    requires { ⌜ (c0 ≤ 15) × (c1 ≤ 15) × LentToEncode (now t) ⌝ }
     ensures { λ r. ⌜ r ≡ codedOf (carrier (editionIn (now (t .entry))) (twoWords c0 d0 c1 d1)) ⌝ }
 {
     let lanes = d0 as u64 + d1 as u64 * 4294967296;
@@ -190,7 +189,7 @@ pub fn encode_vector(edition: Edition, v: &[u8]) -> Encoded
     if 15 < c1 {
         return Encoded::Refused(Refusal::ControlByte, 5);
     }
-    let t = tables::block_tables(edition);
+    let t = tables::encode_tables(edition);
     let d0 = lanes_at(v, 1);
     let d1 = lanes_at(v, 6);
     answer(encode(&t, c0, d0, c1, d1))

@@ -23,11 +23,6 @@ use Rattle.receiving.proofs.Count.{length-answers, vectors-fit}
 use Rattle.receiving.proofs.Counted.{hand-first, hand-append}
 use Rattle.receiving.proofs.Settle.{held-same, settled, last-bytes, bytes-append, alone-settled, alone-held, handed-held}
 
--- a fresh receiver has its edition
-pub fresh-edition : (ed : Edition) (r : Receiver) → Fresh ed r → r .link .edition ≡ ed
-unfolding feedIn
-fresh-edition ed r f = ap (λ (z : Feed). z .link .edition) (f .feed)
-
 module _ (ed : Edition) (line room : List ℕ) (r : Receiver) (f : Fresh ed r) (enough : 10 * (8 * length line / 66) ≤ length room) where
   -- a fresh receiver's run is that of the definition
   run-is : run (feedIn r) (lineBits line) ≡ runOf ed line

@@ -15,10 +15,10 @@ ghost use mathlib.Core.Bool.{true};
 ghost use mathlib.Core.List.{_++_};
 ghost use Prim.Native.Nat.{_+_, _*_, _/_, _≤_, _<_};
 ghost use lib.ListN.{length, take, drop};
-ghost use Rattle.block.specs.Block.{editionOf};
-ghost use Rattle.tables.specs.Tables.{tables, types};
+ghost use Rattle.tables.specs.Tables.{decodeTables, types};
 ghost use Rattle.carrying.specs.Carrying.{Sound};
-ghost use Rattle.receiving.specs.Answer.{Receives};
+ghost use Rattle.receiving.specs.Answer.{Receives, summaryOf};
+ghost use Rattle.receiving.specs.Receive.{receivedVectors};
 ghost use Rattle.receiving.specs.Ranges.{InRange};
 ghost use Rattle.receiving.specs.Counted.{HandedWithin};
 ghost use Rattle.receiving.specs.Loop.{Under, Turns, Ends, Fresh, written, heldBytes, heldHanded, heldAlone};
@@ -108,8 +108,8 @@ pub struct LastVector {
 
 // One turn: a whole block of the line, the bits that the carried one lacks, or a bit that is skipped. A block that is full is tested, and
 // the one held before it is answered.
-fn turn(t: &[u16; 3170], y: &[u8; 256], line: &[u8], room: &mut [u8], p: Progress) -> Progress
-    requires { ⌜ ((now t ≡ tables (p .receiver .link .edition)) × (now y ≡ types)) × (length (now line) ≤ 825000) × Under (now line) (now room) p × (p .pos < 8 * length (now line)) ⌝ }
+fn turn(t: &[u16; 946], y: &[u8; 256], line: &[u8], room: &mut [u8], p: Progress) -> Progress
+    requires { ⌜ ((now t ≡ decodeTables (p .receiver .link .edition)) × (now y ≡ types)) × (length (now line) ≤ 825000) × Under (now line) (now room) p × (p .pos < 8 * length (now line)) ⌝ }
     ensures { λ r. ⌜ Turns (now (line .entry)) (now (room .entry)) (now (room .exit)) p r ⌝ }
 {
     let r = p.receiver;
@@ -166,13 +166,13 @@ fn turn(t: &[u16; 3170], y: &[u8; 256], line: &[u8], room: &mut [u8], p: Progres
 // A receiver over all bits of the line, from a receiver as it stands: the vectors go to the room, but for that of the last block,
 // which is held.
 fn receive_bits(
-    t: &[u16; 3170],
+    t: &[u16; 946],
     y: &[u8; 256],
     line: &[u8],
     room: &mut [u8],
     start: Receiver,
 ) -> Progress
-    requires { ⌜ ((now t ≡ tables (start .link .edition)) × (now y ≡ types)) × (length (now line) ≤ 825000) × InRange (start .link) × Sound (start .carried) × (length (written start (now line)) ≤ length (now room)) ⌝ }
+    requires { ⌜ ((now t ≡ decodeTables (start .link .edition)) × (now y ≡ types)) × (length (now line) ≤ 825000) × InRange (start .link) × Sound (start .carried) × (length (written start (now line)) ≤ length (now room)) ⌝ }
     ensures { λ p. ⌜ Ends (now (line .entry)) (now (room .entry)) (now (room .exit)) start p ⌝ }
 {
     let bits = line.len() * 8;
@@ -206,7 +206,7 @@ pub fn receive_more(line: &[u8], room: &mut [u8], start: Receiver) -> Progress
 {
     let link = start.link;
     let edition = link.edition;
-    let t = tables::block_tables(edition);
+    let t = tables::decode_tables(edition);
     let y = tables::type_table();
     receive_bits(&t, &y, line, room, start)
 }
@@ -265,24 +265,12 @@ fn fresh(edition: Edition) -> Receiver
     }
 }
 
-// Receiving in a known edition with its lent tables, those of the crate tables: a fresh receiver, one part of a line and the end.
-fn receive_with(
-    t: &[u16; 3170],
-    y: &[u8; 256],
-    edition: u64,
-    line: &[u8],
-    room: &mut [u8],
-) -> Received
-    requires { ⌜ (now t ≡ tables (editionOf edition)) × (now y ≡ types) × (edition ≤ 1) ⌝ }
-    ensures { λ r. ⌜ Receives edition (now (line .entry)) (now (room .entry)) r (now (room .exit)) ⌝ }
+// A whole line in an edition: a fresh receiver, one part of a line and the end.
+fn receive_all(edition: Edition, line: &[u8], room: &mut [u8]) -> Summary
+    requires { ⌜ (length (now line) ≤ 825000) × (10 * (8 * length (now line) / 66) ≤ length (now room)) ⌝ }
+    ensures { λ r. ⌜ (r ≡ summaryOf edition (now (line .entry))) × (now (room .exit) ≡ receivedVectors edition (now (line .entry)) ++ drop (length (receivedVectors edition (now (line .entry)))) (now (room .entry))) ⌝ }
 {
-    if 825000 < line.len() {
-        return Received::Refused(Refusal::TooMuch, 0);
-    }
-    if room.len() < 10 * (8 * line.len() / 66) {
-        return Received::Refused(Refusal::Room, 0);
-    }
-    let p = receive_bits(t, y, line, room, fresh(tables::edition_of(edition)));
+    let p = receive_more(line, room, fresh(edition));
     let r = p.receiver;
     let link = r.link;
     let lock = link.lock;
@@ -290,14 +278,14 @@ fn receive_with(
     let last = receive_last(room, p.at, r, p.handed);
     let counts = p.counts;
     let handed = last.handed;
-    Received::Done(Summary {
+    Summary {
         counts: counts,
         locked: lock.locked,
         high: rate.high,
         vectors: counts.tested,
         alone: last.alone,
         handed: handed,
-    })
+    }
 }
 
 // Receiving a line in an edition (0 old, 1 new): its vectors go to the room, from its start.
@@ -307,7 +295,11 @@ pub fn receive(edition: u64, line: &[u8], room: &mut [u8]) -> Received
     if 1 < edition {
         return Received::Refused(Refusal::UnknownEdition, 0);
     }
-    let t = tables::block_tables(tables::edition_of(edition));
-    let y = tables::type_table();
-    receive_with(&t, &y, edition, line, room)
+    if 825000 < line.len() {
+        return Received::Refused(Refusal::TooMuch, 0);
+    }
+    if room.len() < 10 * (8 * line.len() / 66) {
+        return Received::Refused(Refusal::Room, 0);
+    }
+    Received::Done(receive_all(tables::edition_of(edition), line, room))
 }

@@ -11,8 +11,8 @@ use line::put_group;
 use refusals::Refusal;
 use scrambler::mirrored;
 use scrambler::scramble;
-use tables::block_tables;
 use tables::edition_of;
+use tables::encode_tables;
 ghost use mathlib.Core.Path.{_≡_};
 ghost use mathlib.Core.List.{List, _++_};
 ghost use Prim.Native.Nat.{ℕ, _+_, _*_, _/_, _%_, _^_, _<_, _≤_};
@@ -20,7 +20,7 @@ ghost use lib.ListN.{length, getD, take, drop};
 ghost use Rattle.block.specs.Block.{carrier, highControl};
 ghost use Rattle.encoding.specs.Answer.{codedOf};
 ghost use Rattle.line.specs.Word.{word};
-ghost use Rattle.tables.specs.Tables.{editionIn, Lent};
+ghost use Rattle.tables.specs.Tables.{editionIn, LentToEncode};
 ghost use Rattle.sending.specs.Send.{replacedIn, vectorsIn, sentLine};
 ghost use Rattle.sending.specs.Answer.{sent, sentFor, Sends};
 ghost use Rattle.sending.specs.Sends.{Low, chosen, Steps, Groups, Fills};
@@ -62,8 +62,8 @@ struct Group {
 }
 
 // The vector at a place of the vector bytes, encoded.
-fn vector_at(t: &[u16; 3170], bytes: &[u8], at: usize) -> Coded
-    requires { ⌜ Lent (now t) × (at + 10 ≤ length (now bytes)) × (getD (now bytes) at 0 ≤ 15) × (getD (now bytes) (at + 5) 0 ≤ 15) ⌝ }
+fn vector_at(t: &[u16; 2208], bytes: &[u8], at: usize) -> Coded
+    requires { ⌜ LentToEncode (now t) × (at + 10 ≤ length (now bytes)) × (getD (now bytes) at 0 ≤ 15) × (getD (now bytes) (at + 5) 0 ≤ 15) ⌝ }
     ensures { λ r. ⌜ r ≡ codedOf (carrier (editionIn (now (t .entry))) (take 10 (drop at (now (bytes .entry))))) ⌝ }
 {
     let c0 = bytes[at];
@@ -131,8 +131,8 @@ fn send_one(e: Coded, s: Sender) -> Step
 }
 
 // Four vectors sent, from a place of the vector bytes on. The blocks move up with each vector, so that one call sends all four.
-fn send_four(t: &[u16; 3170], bytes: &[u8], at: usize, s: Sender) -> Group
-    requires { ⌜ Lent (now t) × (at + 40 ≤ length (now bytes)) × (s .history < 2 ^ 58) × (s .replaced ≤ 1000000) × (at % 5 ≡ 0) × Low (now bytes) ⌝ }
+fn send_four(t: &[u16; 2208], bytes: &[u8], at: usize, s: Sender) -> Group
+    requires { ⌜ LentToEncode (now t) × (at + 40 ≤ length (now bytes)) × (s .history < 2 ^ 58) × (s .replaced ≤ 1000000) × (at % 5 ≡ 0) × Low (now bytes) ⌝ }
     ensures { λ r. ⌜ Groups (editionIn (now (t .entry))) s (vectorsIn 4 (drop at (now (bytes .entry)))) r ⌝ }
 {
     let none = Block {
@@ -165,8 +165,8 @@ fn send_four(t: &[u16; 3170], bytes: &[u8], at: usize, s: Sender) -> Group
 }
 
 // All groups sent, each as 33 bytes of the room.
-fn send_groups(t: &[u16; 3170], bytes: &[u8], s: Sender, room: &mut [u8]) -> Sender
-    requires { ⌜ Lent (now t) × (length (now bytes) ≤ 1000000) × (length (now bytes) % 40 ≡ 0) × (33 * (length (now bytes) / 40) ≤ length (now room)) × (s .history < 2 ^ 58) × (s .replaced ≡ 0) × Low (now bytes) ⌝ }
+fn send_groups(t: &[u16; 2208], bytes: &[u8], s: Sender, room: &mut [u8]) -> Sender
+    requires { ⌜ LentToEncode (now t) × (length (now bytes) ≤ 1000000) × (length (now bytes) % 40 ≡ 0) × (33 * (length (now bytes) / 40) ≤ length (now room)) × (s .history < 2 ^ 58) × (s .replaced ≡ 0) × Low (now bytes) ⌝ }
     ensures { λ r. ⌜ Fills (editionIn (now (t .entry))) s (now (bytes .entry)) (now (room .entry)) (now (room .exit)) r ⌝ }
 {
     let groups = bytes.len() / 40;
@@ -196,7 +196,7 @@ fn send_all(edition: Edition, vectors: &[u8], start: u64, line: &mut [u8]) -> Se
         history: mirrored(start),
         replaced: 0,
     };
-    let tables = block_tables(edition);
+    let tables = encode_tables(edition);
     let end = send_groups(&tables, vectors, first, line);
     let diagram = end.diagram;
     Sending {

@@ -10,7 +10,7 @@ use Rattle.block.specs.declared.Edition.{Edition}
 use Rattle.block.specs.declared.Edition.the-variants.{Old, New}
 use Rattle.block.specs.Block.{Slot, Control, Calm, Data, Set, Start, Terminate, flagsAt, codeOf, octetOf}
 use Rattle.block.specs.Rows.{width, row, rowOf}
-use Rattle.tables.specs.Tables.{upto, types, tables, editionIn, Lent, kindNumber, shiftBy, maskBy, octetsFrom, baseBy, laneBy, codesFrom, fromBy, atBy, firstBy, nextBy}
+use Rattle.tables.specs.Tables.{upto, types, decodeTables, encodeTables, editionIn, LentToDecode, LentToEncode, shiftBy, maskBy, octetsFrom, baseBy, laneBy, codesFrom, fromBy, atBy, firstBy, nextBy}
 
 from : {A : Type 0} (f : ℕ → A) (z : A) (n i k : ℕ) → k < n → getD (map f (upto i n)) k z ≡ f (i + k)
 from f z zero i k h = absurd (not-suc-le-zero h)
@@ -26,92 +26,102 @@ unfolding types
 type-at t e k h = ap (λ (l : List ℕ). getD l k 0) e ∙ entry rowOf 0 256 k h
 
 -- the part of n entries from b on
-part : (ed : Edition) (f : ℕ → ℕ) (b n : ℕ) → take n (drop b (tables ed)) ≡ map f (upto 0 n) → (t : List ℕ) → t ≡ tables ed → (k : ℕ) → k < n → getD t (b + k) 0 ≡ f k
-part ed f b n e t q k h =
+part : (l : List ℕ) (f : ℕ → ℕ) (b n : ℕ) → take n (drop b l) ≡ map f (upto 0 n) → (t : List ℕ) → t ≡ l → (k : ℕ) → k < n → getD t (b + k) 0 ≡ f k
+part l f b n e t q k h =
     ap (λ (l : List ℕ). getD l (b + k) 0) q
-    ∙ sym (getD-drop b (tables ed) k 0)
-    ∙ sym (getD-take n (drop b (tables ed)) k 0 h)
+    ∙ sym (getD-drop b l k 0)
+    ∙ sym (getD-take n (drop b l) k 0 h)
     ∙ ap (λ (l : List ℕ). getD l k 0) e
     ∙ entry f 0 n k h
 
+-- ---- for decoding
+
 -- the octet of a slot's bits
-pub octet-of : (s : Slot) (t : List ℕ) → Lent t → (v : ℕ) → v < 2 ^ width s → getD t (octetsFrom s + v) 0 ≡ octetOf (editionIn t) s v
-unfolding tables
-octet-of Data t q = part (editionIn t) (octetOf (editionIn t) Data) 0 256 refl t q
-octet-of Control t q = part (editionIn t) (octetOf (editionIn t) Control) 256 128 refl t q
-octet-of Calm t q = part (editionIn t) (octetOf (editionIn t) Calm) 384 128 refl t q
-octet-of Set t q = part (editionIn t) (octetOf (editionIn t) Set) 512 16 refl t q
-octet-of Start t q = part (editionIn t) (octetOf (editionIn t) Start) 528 1 refl t q
-octet-of Terminate t q = part (editionIn t) (octetOf (editionIn t) Terminate) 529 1 refl t q
+pub octet-of : (s : Slot) (t : List ℕ) → LentToDecode t → (v : ℕ) → v < 2 ^ width s → getD t (octetsFrom s + v) 0 ≡ octetOf (editionIn t) s v
+unfolding decodeTables
+octet-of Data t q = part (decodeTables (editionIn t)) (octetOf (editionIn t) Data) 0 256 refl t q
+octet-of Control t q = part (decodeTables (editionIn t)) (octetOf (editionIn t) Control) 256 128 refl t q
+octet-of Calm t q = part (decodeTables (editionIn t)) (octetOf (editionIn t) Calm) 384 128 refl t q
+octet-of Set t q = part (decodeTables (editionIn t)) (octetOf (editionIn t) Set) 512 16 refl t q
+octet-of Start t q = part (decodeTables (editionIn t)) (octetOf (editionIn t) Start) 528 1 refl t q
+octet-of Terminate t q = part (decodeTables (editionIn t)) (octetOf (editionIn t) Terminate) 529 1 refl t q
 
-pub shift-at : (t : List ℕ) → Lent t → (k : ℕ) → k < 128 → getD t (530 + k) 0 ≡ shiftBy k
-unfolding tables
-shift-at t q = part (editionIn t) shiftBy 530 128 refl t q
+pub shift-at : (t : List ℕ) → LentToDecode t → (k : ℕ) → k < 128 → getD t (530 + k) 0 ≡ shiftBy k
+unfolding decodeTables
+shift-at t q = part (decodeTables (editionIn t)) shiftBy 530 128 refl t q
 
-pub mask-at : (t : List ℕ) → Lent t → (k : ℕ) → k < 128 → getD t (658 + k) 0 ≡ maskBy k
-unfolding tables
-mask-at t q = part (editionIn t) maskBy 658 128 refl t q
+pub mask-at : (t : List ℕ) → LentToDecode t → (k : ℕ) → k < 128 → getD t (658 + k) 0 ≡ maskBy k
+unfolding decodeTables
+mask-at t q = part (decodeTables (editionIn t)) maskBy 658 128 refl t q
 
-pub base-at : (t : List ℕ) → Lent t → (k : ℕ) → k < 128 → getD t (786 + k) 0 ≡ baseBy k
-unfolding tables
-base-at t q = part (editionIn t) baseBy 786 128 refl t q
+pub base-at : (t : List ℕ) → LentToDecode t → (k : ℕ) → k < 128 → getD t (786 + k) 0 ≡ baseBy k
+unfolding decodeTables
+base-at t q = part (decodeTables (editionIn t)) baseBy 786 128 refl t q
 
-pub low-at : (t : List ℕ) → Lent t → (r : ℕ) → r < 16 → getD t (914 + r) 0 ≡ flagsAt (row r .fields) 0
-unfolding tables
-low-at t q = part (editionIn t) (λ (r : ℕ). flagsAt (row r .fields) 0) 914 16 refl t q
+pub low-at : (t : List ℕ) → LentToDecode t → (r : ℕ) → r < 16 → getD t (914 + r) 0 ≡ flagsAt (row r .fields) 0
+unfolding decodeTables
+low-at t q = part (decodeTables (editionIn t)) (λ (r : ℕ). flagsAt (row r .fields) 0) 914 16 refl t q
 
-pub high-at : (t : List ℕ) → Lent t → (r : ℕ) → r < 16 → getD t (930 + r) 0 ≡ flagsAt (row r .fields) 4
-unfolding tables
-high-at t q = part (editionIn t) (λ (r : ℕ). flagsAt (row r .fields) 4) 930 16 refl t q
-
-pub kind-at : (t : List ℕ) → Lent t → (r : ℕ) → r < 16 → getD t (946 + r) 0 ≡ kindNumber (row r .kind)
-unfolding tables
-kind-at t q = part (editionIn t) (λ (r : ℕ). kindNumber (row r .kind)) 946 16 refl t q
-
-pub lead-at : (t : List ℕ) → Lent t → (r : ℕ) → r < 16 → getD t (962 + r) 0 ≡ row r .type
-unfolding tables
-lead-at t q = part (editionIn t) (λ (r : ℕ). row r .type) 962 16 refl t q
-
-pub lane-at : (t : List ℕ) → Lent t → (k : ℕ) → k < 128 → getD t (978 + k) 0 ≡ laneBy k
-unfolding tables
-lane-at t q = part (editionIn t) laneBy 978 128 refl t q
-
-pub from-at : (t : List ℕ) → Lent t → (k : ℕ) → k < 128 → getD t (1106 + k) 0 ≡ fromBy k
-unfolding tables
-from-at t q = part (editionIn t) fromBy 1106 128 refl t q
-
-pub place-at : (t : List ℕ) → Lent t → (k : ℕ) → k < 128 → getD t (1234 + k) 0 ≡ atBy k
-unfolding tables
-place-at t q = part (editionIn t) atBy 1234 128 refl t q
-
-pub first-at : (t : List ℕ) → Lent t → (m : ℕ) → m < 256 → getD t (1362 + m) 0 ≡ firstBy m
-unfolding tables
-first-at t q = part (editionIn t) firstBy 1362 256 refl t q
-
-pub next-at : (t : List ℕ) → Lent t → (r : ℕ) → r < 16 → getD t (1618 + r) 0 ≡ nextBy r
-unfolding tables
-next-at t q = part (editionIn t) nextBy 1618 16 refl t q
-
--- the code of a slot for an octet
-pub code-of : (s : Slot) (t : List ℕ) → Lent t → (o : ℕ) → o < 256 → getD t (1634 + codesFrom s + o) 0 ≡ codeOf (editionIn t) s o
-unfolding tables
-code-of Data t q = part (editionIn t) (codeOf (editionIn t) Data) 1634 256 refl t q
-code-of Control t q = part (editionIn t) (codeOf (editionIn t) Control) 1890 256 refl t q
-code-of Calm t q = part (editionIn t) (codeOf (editionIn t) Calm) 2146 256 refl t q
-code-of Set t q = part (editionIn t) (codeOf (editionIn t) Set) 2402 256 refl t q
-code-of Start t q = part (editionIn t) (codeOf (editionIn t) Start) 2658 256 refl t q
-code-of Terminate t q = part (editionIn t) (codeOf (editionIn t) Terminate) 2914 256 refl t q
+pub high-at : (t : List ℕ) → LentToDecode t → (r : ℕ) → r < 16 → getD t (930 + r) 0 ≡ flagsAt (row r .fields) 4
+unfolding decodeTables
+high-at t q = part (decodeTables (editionIn t)) (λ (r : ℕ). flagsAt (row r .fields) 4) 930 16 refl t q
 
 -- tables are lent with their edition
-pub lent : (ed : Edition) (t : List ℕ) → t ≡ tables ed → editionIn t ≡ ed
-unfolding editionIn tables
-lent Old t e = ap editionIn e
-lent New t e = ap editionIn e
+pub lent-to-decode : (ed : Edition) (t : List ℕ) → t ≡ decodeTables ed → editionIn t ≡ ed
+unfolding editionIn decodeTables
+lent-to-decode Old t e = ap editionIn e
+lent-to-decode New t e = ap editionIn e
 
-pub lends : (ed : Edition) (t : List ℕ) → t ≡ tables ed → Lent t
-lends ed t e = e ∙ ap tables (sym (lent ed t e))
+pub lends-to-decode : (ed : Edition) (t : List ℕ) → t ≡ decodeTables ed → LentToDecode t
+lends-to-decode ed t e = e ∙ ap decodeTables (sym (lent-to-decode ed t e))
 
--- they are the newer one's where code 06 has an octet
+-- ---- for encoding
+
+-- the code of a slot for an octet
+pub code-of : (s : Slot) (t : List ℕ) → LentToEncode t → (o : ℕ) → o < 256 → getD t (codesFrom s + o) 0 ≡ codeOf (editionIn t) s o
+unfolding encodeTables
+code-of Data t q = part (encodeTables (editionIn t)) (codeOf (editionIn t) Data) 0 256 refl t q
+code-of Control t q = part (encodeTables (editionIn t)) (codeOf (editionIn t) Control) 256 256 refl t q
+code-of Calm t q = part (encodeTables (editionIn t)) (codeOf (editionIn t) Calm) 512 256 refl t q
+code-of Set t q = part (encodeTables (editionIn t)) (codeOf (editionIn t) Set) 768 256 refl t q
+code-of Start t q = part (encodeTables (editionIn t)) (codeOf (editionIn t) Start) 1024 256 refl t q
+code-of Terminate t q = part (encodeTables (editionIn t)) (codeOf (editionIn t) Terminate) 1280 256 refl t q
+
+pub lane-at : (t : List ℕ) → LentToEncode t → (k : ℕ) → k < 128 → getD t (1536 + k) 0 ≡ laneBy k
+unfolding encodeTables
+lane-at t q = part (encodeTables (editionIn t)) laneBy 1536 128 refl t q
+
+pub from-at : (t : List ℕ) → LentToEncode t → (k : ℕ) → k < 128 → getD t (1664 + k) 0 ≡ fromBy k
+unfolding encodeTables
+from-at t q = part (encodeTables (editionIn t)) fromBy 1664 128 refl t q
+
+pub place-at : (t : List ℕ) → LentToEncode t → (k : ℕ) → k < 128 → getD t (1792 + k) 0 ≡ atBy k
+unfolding encodeTables
+place-at t q = part (encodeTables (editionIn t)) atBy 1792 128 refl t q
+
+pub lead-at : (t : List ℕ) → LentToEncode t → (r : ℕ) → r < 16 → getD t (1920 + r) 0 ≡ row r .type
+unfolding encodeTables
+lead-at t q = part (encodeTables (editionIn t)) (λ (r : ℕ). row r .type) 1920 16 refl t q
+
+pub first-at : (t : List ℕ) → LentToEncode t → (m : ℕ) → m < 256 → getD t (1936 + m) 0 ≡ firstBy m
+unfolding encodeTables
+first-at t q = part (encodeTables (editionIn t)) firstBy 1936 256 refl t q
+
+pub next-at : (t : List ℕ) → LentToEncode t → (r : ℕ) → r < 16 → getD t (2192 + r) 0 ≡ nextBy r
+unfolding encodeTables
+next-at t q = part (encodeTables (editionIn t)) nextBy 2192 16 refl t q
+
+pub lent-to-encode : (ed : Edition) (t : List ℕ) → t ≡ encodeTables ed → editionIn t ≡ ed
+unfolding editionIn encodeTables
+lent-to-encode Old t e = ap editionIn e
+lent-to-encode New t e = ap editionIn e
+
+pub lends-to-encode : (ed : Edition) (t : List ℕ) → t ≡ encodeTables ed → LentToEncode t
+lends-to-encode ed t e = e ∙ ap encodeTables (sym (lent-to-encode ed t e))
+
+-- ---- for both
+
+-- they are the newer edition's where entry 262 is valid
 pub newer : (t : List ℕ) → getD t 262 0 < 256 → editionIn t ≡ New
 unfolding editionIn
 newer t l = rw (lt-ltb (getD t 262 0) 256 l)

@@ -8,8 +8,6 @@ use lib.Dec.{eqb, ltb}
 use lib.ListN.{getD, take, drop}
 use Rattle.block.specs.declared.Edition.{Edition}
 use Rattle.block.specs.declared.Edition.the-variants.{Old, New}
-use Rattle.block.specs.declared.Kind.{Kind}
-use Rattle.block.specs.declared.Kind.the-variants.{D, C, S, T, LI, E}
 use Rattle.block.specs.Block.{Slot, Control, Calm, Data, Set, Start, Terminate, Field, d, Format, codeOf, octetOf, flagsAt}
 use Rattle.block.specs.Rows.{width, fieldAt, placeAt, bitsOf, formats, row, rowOf}
 
@@ -21,15 +19,6 @@ upto i (suc n) = i ∷ upto (suc i) n
 -- the row of each type byte, 16 for a byte that is no type
 unfoldable pub types : List ℕ
 types = map rowOf (upto 0 256)
-
--- the kinds by number
-abbrev pub kindNumber : Kind → ℕ
-kindNumber D = 0
-kindNumber C = 1
-kindNumber S = 2
-kindNumber T = 3
-kindNumber E = 4
-kindNumber LI = 5
 
 -- ---- for a character p of a row: table entry 8 * row + p
 
@@ -98,10 +87,10 @@ firstBy m = seek m formats
 abbrev pub nextBy : ℕ → ℕ
 nextBy r = suc r + seek (flagsOf (row r)) (drop (suc r) formats)
 
--- ---- the tables, one after the other
+-- ---- the tables for decoding, and those for encoding, one after the other
 
-unfoldable pub tables : Edition → List ℕ
-tables ed =
+unfoldable pub decodeTables : Edition → List ℕ
+decodeTables ed =
     map (octetOf ed Data) (upto 0 256)
     ++ map (octetOf ed Control) (upto 0 128)
     ++ map (octetOf ed Calm) (upto 0 128)
@@ -113,23 +102,28 @@ tables ed =
     ++ map baseBy (upto 0 128)
     ++ map (λ (r : ℕ). flagsAt (row r .fields) 0) (upto 0 16)
     ++ map (λ (r : ℕ). flagsAt (row r .fields) 4) (upto 0 16)
-    ++ map (λ (r : ℕ). kindNumber (row r .kind)) (upto 0 16)
-    ++ map (λ (r : ℕ). row r .type) (upto 0 16)
-    ++ map laneBy (upto 0 128)
-    ++ map fromBy (upto 0 128)
-    ++ map atBy (upto 0 128)
-    ++ map firstBy (upto 0 256)
-    ++ map nextBy (upto 0 16)
-    ++ map (codeOf ed Data) (upto 0 256)
+
+unfoldable pub encodeTables : Edition → List ℕ
+encodeTables ed =
+    map (codeOf ed Data) (upto 0 256)
     ++ map (codeOf ed Control) (upto 0 256)
     ++ map (codeOf ed Calm) (upto 0 256)
     ++ map (codeOf ed Set) (upto 0 256)
     ++ map (codeOf ed Start) (upto 0 256)
     ++ map (codeOf ed Terminate) (upto 0 256)
+    ++ map laneBy (upto 0 128)
+    ++ map fromBy (upto 0 128)
+    ++ map atBy (upto 0 128)
+    ++ map (λ (r : ℕ). row r .type) (upto 0 16)
+    ++ map firstBy (upto 0 256)
+    ++ map nextBy (upto 0 16)
 
--- The edition of lent tables, by the octet of code 06; and that they are the tables of an edition.
+-- The edition of lent tables, by the octet of code 06 or the code of octet 06; and that they are the tables of an edition.
 unfoldable pub editionIn : List ℕ → Edition
 editionIn t = cond (ltb (getD t 262 0) 256) New Old
 
-abbrev pub Lent : List ℕ → Type 0
-Lent t = t ≡ tables (editionIn t)
+abbrev pub LentToDecode : List ℕ → Type 0
+LentToDecode t = t ≡ decodeTables (editionIn t)
+
+abbrev pub LentToEncode : List ℕ → Type 0
+LentToEncode t = t ≡ encodeTables (editionIn t)

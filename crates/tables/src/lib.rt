@@ -1,48 +1,50 @@
 // The constant tables of the block formats. A constant array is made anew wherever it is named, so the outermost function takes the
-// tables once and lends them to all below.
+// tables once and lends them to all below; those for decoding and those for encoding are apart, and each side takes its own.
 ghost use mathlib.Core.Path.{_≡_};
 ghost use mathlib.Core.List.{List};
 ghost use Prim.Native.Nat.{_<_};
 ghost use Rattle.block.specs.Block.{editionOf, twoWords, lowPower, kindFor};
 ghost use Rattle.block.specs.Rows.{row};
-ghost use Rattle.tables.specs.Tables.{types, tables, Lent};
+ghost use Rattle.tables.specs.Tables.{types, decodeTables, encodeTables};
 use block::Edition;
 use block::Kind;
 
 mod data;
 
-// Where each table begins. For character p of row r, at 8 * r + p: the place of its field, the mask, and where its octets begin.
+// Where each table begins, of those for decoding: octets come first. For character p of row r, at 8 * r + p: the place of its field, the
+// mask, and where its octets begin.
 pub const SHIFT: usize = 530;
 
 pub const MASK: usize = 658;
 
 pub const BASE: usize = 786;
 
-// For row r: its two control bytes, its kind and its type.
+// For row r: its two control bytes.
 pub const LOW: usize = 914;
 
 pub const HIGH: usize = 930;
 
-const KIND: usize = 946;
+// Of those for encoding: codes come first. For field i of row r, at 8 * r + i: where its octet stands among eight, where its codes begin,
+// and its place.
+pub const LANE: usize = 1536;
 
-pub const TYPE: usize = 962;
+pub const FROM: usize = 1664;
 
-// For field i of row r, at 8 * r + i: where its octet stands among eight, where its codes begin, and its place.
-pub const LANE: usize = 978;
+pub const PLACE: usize = 1792;
 
-pub const FROM: usize = 1106;
-
-pub const PLACE: usize = 1234;
+// For row r: its type.
+pub const TYPE: usize = 1920;
 
 // For two control bytes, at c0 + 16 * c1: the first row that has them. For row r: the next with its control bytes.
-pub const FIRST: usize = 1362;
+pub const FIRST: usize = 1936;
 
-pub const NEXT: usize = 1618;
+pub const NEXT: usize = 2192;
 
-pub const CODES: usize = 1634;
-
-// The octet of control code 06: below 256, and so valid, in the newer edition alone.
+// The octet of control code 06, and the code of that octet: below 256, and so valid, in the newer edition alone.
 pub const LOW_POWER: usize = 262;
+
+// The kind of each row, two bits for each: D, C, S and T are 0 to 3.
+const KINDS: u32 = 0xffff6694;
 
 // The edition of a number: 0 is the old one.
 pub fn edition_of(n: u64) -> Edition
@@ -58,39 +60,50 @@ pub fn type_table() -> [u8; 256]
     data::TYPES
 }
 
-// The other tables, one after the other. The newer edition has four entries more.
-pub fn block_tables(edition: Edition) -> [u16; 3170]
-    ensures { λ r. ⌜ r ≡ tables edition ⌝ }
+// The tables for decoding, one after the other. The newer edition has two entries more.
+pub fn decode_tables(edition: Edition) -> [u16; 946]
+    ensures { λ r. ⌜ r ≡ decodeTables edition ⌝ }
 {
-    let mut t = data::TABLES;
+    let mut t = data::DECODE;
     match edition {
         Edition::Old => {}
         Edition::New => {
             t[262] = 6; // the octet of code 06
             t[390] = 6; // in type 1e too
-            t[1896] = 6; // the code of octet 06
-            t[2152] = 6; // in type 1e too
+        }
+    }
+    t
+}
+
+// The tables for encoding, one after the other. The newer edition has two entries more.
+pub fn encode_tables(edition: Edition) -> [u16; 2208]
+    ensures { λ r. ⌜ r ≡ encodeTables edition ⌝ }
+{
+    let mut t = data::ENCODE;
+    match edition {
+        Edition::Old => {}
+        Edition::New => {
+            t[262] = 6; // the code of octet 06
+            t[518] = 6; // in type 1e too
         }
     }
     t
 }
 
 // The kind of a row.
-fn kind_at(t: &[u16; 3170], r: usize) -> Kind
-    requires { ⌜ (r < 16) × Lent (now t) ⌝ }
+fn kind_at(r: usize) -> Kind
+    requires { ⌜ r < 16 ⌝ }
     ensures { λ z. ⌜ z ≡ row r .kind ⌝ }
 {
-    let n = t[KIND + r];
+    let n = (KINDS >> (2 * r)) % 4;
     if n == 0 {
         Kind::D
     } else if n == 1 {
         Kind::C
     } else if n == 2 {
         Kind::S
-    } else if n == 3 {
-        Kind::T
     } else {
-        Kind::E
+        Kind::T
     }
 }
 
@@ -112,12 +125,12 @@ fn low_power(r: usize, c0: u8, d0: u32, c1: u8, d1: u32) -> bool
 }
 
 // The kind of a valid vector of row r.
-pub fn kind_of(t: &[u16; 3170], r: usize, c0: u8, d0: u32, c1: u8, d1: u32) -> Kind
-    requires { ⌜ (r < 16) × Lent (now t) ⌝ }
+pub fn kind_of(r: usize, c0: u8, d0: u32, c1: u8, d1: u32) -> Kind
+    requires { ⌜ r < 16 ⌝ }
     ensures { λ z. ⌜ z ≡ kindFor (row r) (twoWords c0 d0 c1 d1) ⌝ }
 {
     if low_power(r, c0, d0, c1, d1) {
         return Kind::LI;
     }
-    kind_at(t, r)
+    kind_at(r)
 }

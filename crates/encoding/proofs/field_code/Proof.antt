@@ -41,9 +41,6 @@ cast-result c = omega (arith, from-le (c .before .before .args .r) (c .before .b
 add-result : tie.Need-add-result
 add-result c = omega (arith, from-le (c .before .before .args .r) (c .before .before .args .i) (c .before .before .pre .0) (c .before .before .pre .1) (c .before .before .args .t .now) (c .before .before .pre .2))
 
-add-result-2 : tie.Need-add-result-2
-add-result-2 c = omega (arith, from-le (c .before .before .args .r) (c .before .before .args .i) (c .before .before .pre .0) (c .before .before .pre .1) (c .before .before .args .t .now) (c .before .before .pre .2))
-
 mul-result : tie.Need-mul-result
 mul-result c = omega (arith, from-le (c .before .before .args .r) (c .before .before .args .i) (c .before .before .pre .0) (c .before .before .pre .1) (c .before .before .args .t .now) (c .before .before .pre .2))
 
@@ -69,7 +66,6 @@ field-code-spec =
     shr-octet
     cast-result
     add-result
-    add-result-2
     mul-result
     element-copy-out-result
     returns)

@@ -1,6 +1,6 @@
 -- `receiving::receive_bits` meets its contract. The loop's invariant: what comes of the receiver, its room and its counts from here is what comes of them from the start. Assumes nothing.
 use mathlib.Core.Path.{ap, sym, _∙_}
-use Rattle.tables.specs.Tables.{tables}
+use Rattle.tables.specs.Tables.{decodeTables}
 use native.Mathlib.Omega.{arith}
 use Prim.Native.Nat.{_*_, _-_}
 use borrow.Author.Needs.{needs}
@@ -28,7 +28,7 @@ loop-holds c =
 turn-requires : tie.Need-turn-requires Inv-loop μ-loop
 turn-requires c κs =
     let pre = c .before .before .before .before .before .before .pre in
-    ((pre .0 .0 ∙ ap tables (sym (c .before .before .before .loop .inv .edition)), pre .0 .1), pre .1, c .before .before .before .loop .inv .under, omega (arith, c .before .if1 .taken))
+    ((pre .0 .0 ∙ ap decodeTables (sym (c .before .before .before .loop .inv .edition)), pre .0 .1), pre .1, c .before .before .before .loop .inv .under, omega (arith, c .before .if1 .taken))
 
 loop-less : tie.Need-loop-less Inv-loop μ-loop
 loop-less c = omega (arith, c .before .before .turn .ensures .past, c .before .before .before .before .if1 .taken)

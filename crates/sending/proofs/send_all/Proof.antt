@@ -4,7 +4,7 @@ use mathlib.Core.Path.{refl, sym, subst}
 use Prim.Native.Nat.{ℕ}
 use denote.Ref.{now}
 use Rattle.scrambler.proofs.Laws.{mirror-lt}
-use Rattle.tables.proofs.Entries.{lent, lends}
+use Rattle.tables.proofs.Entries.{lent-to-encode, lends-to-encode}
 use Rattle.sending.proofs.Answers.{filled-in, answered, placed}
 use borrow.Author.Needs.{needs}
 use Rattle.sending.proofs.send_all.Statement.{statement}
@@ -13,12 +13,12 @@ use Rattle.sending.proofs.send_all.Tie as tie
 mirrored-requires : tie.Need-mirrored-requires
 mirrored-requires c κs = search needs
 
-block-tables-requires : tie.Need-block-tables-requires
-block-tables-requires c κs = search needs
+encode-tables-requires : tie.Need-encode-tables-requires
+encode-tables-requires c κs = search needs
 
 send-groups-requires : tie.Need-send-groups-requires
 send-groups-requires c κs =
-    (lends (c .before .before .before .before .before .before .args .edition) _ (c .before .before .block-tables .ensures), c .before .before .before .before .before .before .pre .0, c .before .before .before .before .before .before .pre .1, c .before .before .before .before .before .before .pre .2, subst (λ (h : ℕ). h < 2 ^ 58) (sym (c .before .before .before .mirrored .ensures)) (mirror-lt (c .before .before .before .before .before .before .args .start)), refl, c .before .before .before .before .before .before .pre .3)
+    (lends-to-encode (c .before .before .before .before .before .before .args .edition) _ (c .before .before .encode-tables .ensures), c .before .before .before .before .before .before .pre .0, c .before .before .before .before .before .before .pre .1, c .before .before .before .before .before .before .pre .2, subst (λ (h : ℕ). h < 2 ^ 58) (sym (c .before .before .before .mirrored .ensures)) (mirror-lt (c .before .before .before .before .before .before .args .start)), refl, c .before .before .before .before .before .before .pre .3)
 
 mirrored-requires-2 : tie.Need-mirrored-requires-2
 mirrored-requires-2 c κs = search needs
@@ -36,7 +36,7 @@ returns c =
     let e = c .before .before .before .before .before .before .before .before .mirrored .ensures in
     let r = c .before .before .before .before .send-groups .result in
     let ed = c .before .before .before .before .before .before .before .before .before .before .before .args .edition in
-    let k = lent ed _ (c .before .before .before .before .before .before .before .block-tables .ensures) in
+    let k = lent-to-encode ed _ (c .before .before .before .before .before .before .before .encode-tables .ensures) in
     let f = filled-in _ ed k (c .before .before .before .before .send-groups .ensures) in (
       answered ed b l _ (c .before .before .before .before .before .before .before .before .before .before .before .args .start) (c .before .before .before .before .before .before .before .before .mirrored .result) r e f (c .before .mirrored2 .result) (c .state-number .result) (c .before .mirrored2 .ensures) (c .state-number .ensures .0),
       placed ed b l _ (c .before .before .before .before .before .before .before .before .before .before .before .args .start) (c .before .before .before .before .before .before .before .before .mirrored .result) r e f,
@@ -47,7 +47,7 @@ send-all-spec =
     tie.close
     (tie.spec
     mirrored-requires
-    block-tables-requires
+    encode-tables-requires
     send-groups-requires
     mirrored-requires-2
     state-number-requires

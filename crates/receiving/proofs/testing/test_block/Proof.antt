@@ -2,7 +2,7 @@
 use mathlib.Core.Path.{ap, _∙_}
 use Rattle.block.specs.declared.Edition.{Edition}
 use Rattle.block.specs.Block.{classOf, decoded}
-use Rattle.tables.proofs.Entries.{lent, lends}
+use Rattle.tables.proofs.Entries.{lent-to-decode, lends-to-decode}
 use Rattle.receiving.specs.Machine.{linkOf, testedOf}
 use Rattle.receiving.specs.Loop.{testedIn}
 use borrow.Author.Needs.{needs}
@@ -22,7 +22,7 @@ descramble-requires : tie.Need-descramble-requires
 descramble-requires c κs = search needs
 
 decode-requires : tie.Need-decode-requires
-decode-requires c κs = (lends (c .before .before .before .before .before .before .args .l .edition) _ (c .before .before .before .before .before .before .pre .0 .0), c .before .before .before .before .before .before .pre .0 .1)
+decode-requires c κs = (lends-to-decode (c .before .before .before .before .before .before .args .l .edition) _ (c .before .before .before .before .before .before .pre .0 .0), c .before .before .before .before .before .before .pre .0 .1)
 
 is-on-requires : tie.Need-is-on-requires
 is-on-requires c κs = search needs
@@ -35,7 +35,7 @@ returns c =
     let rate-step = c .before .before .before .before .rate-step in
     let descramble = c .before .before .before .descramble in
     let decode = c .before .before .decode in
-    let ed = lent (c .before .before .before .before .before .before .before .before .before .args .l .edition) _ (c .before .before .before .before .before .before .before .before .before .pre .0 .0) in
+    let ed = lent-to-decode (c .before .before .before .before .before .before .before .before .before .args .l .edition) _ (c .before .before .before .before .before .before .before .before .before .pre .0 .0) in
     let class = decode .ensures .0 ∙ ap (λ (e : Edition). classOf e (c .before .before .before .before .before .before .before .before .before .args .header) (descramble .result .word)) ed in
     let vector = decode .ensures .1 ∙ ap (λ (e : Edition). decoded e (c .before .before .before .before .before .before .before .before .before .args .header) (descramble .result .word)) ed in (
       rw (← valid-header .ensures, ← lock-step .ensures .0, ← rate-step .ensures, ← descramble .ensures .1),
