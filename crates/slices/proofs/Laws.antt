@@ -21,7 +21,7 @@ head-first : (c : Check) (cs ds : List Check) → first cs ≡ first ds → firs
 unfolding first
 head-first c cs ds e = ap (λ (v : Verdict). cond (c .applies) (refused (c .number) (c .place)) v) e
 
-skipped : (c : Check) (cs : List Check) → c .applies ≡ false → first (c ∷ cs) ≡ first cs
+pub skipped : (c : Check) (cs : List Check) → c .applies ≡ false → first (c ∷ cs) ≡ first cs
 unfolding first
 skipped c cs e = rw e
 

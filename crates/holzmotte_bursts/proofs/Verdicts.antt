@@ -1,0 +1,131 @@
+-- The checks of a call through C: a state too short, a summary or counters too short, and else those of the call itself. Assumes nothing.
+use Prim.Native.Nat.{ℕ, _+_, _*_, _/_, _≤_, _<_}
+use mathlib.Core.Path.{_≡_, refl, sym, ap, ap₂, _∙_}
+use mathlib.Core.Bool.{Bool, true, false}
+use mathlib.Core.List.{List, [], _∷_}
+use native.Mathlib.Omega.{arith}
+use lib.ListN.{length}
+use lib.Dec.{ltb}
+use borrow.Author.Tests.{lt-ltb, le-ltb}
+use Rattle.refusals.specs.First.{Check, check, Verdict, accepted, refused, first, byVerdict}
+use Rattle.slices.specs.Slices.{tooShort, shortSlice, after}
+use Rattle.slices.proofs.Laws.{first-after, skipped}
+use Rattle.bursts.specs.declared.State.{State}
+use Rattle.bursts.specs.Judging.{badState, roomFor, burstChecks, burstVerdict}
+use Rattle.bursts.specs.Burst.{stateFresh, BeginAnswer, begun, beginAnswer}
+use Rattle.bursts.specs.Burst as Burst
+use Rattle.stored.specs.Stored.{stateIn, storedIn}
+use Rattle.holzmotte_bursts.specs.Boundary.{beginVerdict, BeginsThroughC, verdict}
+
+-- ---- a fresh state
+
+module _ (edition : ℕ) (state : List ℕ) where
+  -- the two lists of checks side by side
+  sides : (u : Bool) (s : State) (n p : ℕ) → Burst.refused n p ≡ byVerdict (first (check 13 u ∷ [])) (begun s) Burst.refused
+      → (u ≡ true) × (n ≡ 13) × (p ≡ 0)
+  unfolding first
+  sides true s n p e = (refl, cc, cc)
+  sides false s n p e = absurd (let z : _≡_ {A = ℕ} 0 1 = cc in omega arith)
+
+  goes : (u : Bool) (s t : State) → begun t ≡ byVerdict (first (check 13 u ∷ [])) (begun s) Burst.refused → (u ≡ false) × (t ≡ s)
+  unfolding first
+  goes true s t e = absurd (let z : _≡_ {A = ℕ} 0 1 = cc in omega arith)
+  goes false s t e = (refl, cc)
+
+  -- refused
+  pub begin-place : (n p : ℕ) → Burst.refused n p ≡ beginAnswer edition → p ≤ 1000000
+  unfolding beginAnswer
+  begin-place n p e = let z = sides (ltb 1 edition) (stateFresh edition) n p e in omega (arith, z .2)
+
+  pub begin-refused : (n p : ℕ) → Burst.refused n p ≡ beginAnswer edition → BeginsThroughC edition state (n + 256 * p) state
+  unfolding beginAnswer beginVerdict first
+  begin-refused n p e =
+      let z = sides (ltb 1 edition) (stateFresh edition) n p e in
+      (rw (z .0) (ap₂ (λ (a b : ℕ). a + 256 * b) (z .1) (z .2)), rw (z .0))
+
+  -- with a state too short
+  pub begin-short : (s : State) → begun s ≡ beginAnswer edition → length state < 232 → BeginsThroughC edition state 4 state
+  unfolding beginAnswer beginVerdict first
+  begin-short s e l =
+      let z = goes (ltb 1 edition) (stateFresh edition) s e in
+      (rw (z .0, lt-ltb (length state) 232 l), rw (z .0, lt-ltb (length state) 232 l))
+
+  -- or long enough
+  pub begin-done : (s : State) (state′ : List ℕ) → begun s ≡ beginAnswer edition → 232 ≤ length state → state′ ≡ storedIn s state → BeginsThroughC edition state 0 state′
+  unfolding beginAnswer beginVerdict first
+  begin-done s state′ e l q =
+      let z = goes (ltb 1 edition) (stateFresh edition) s e in
+      (rw (z .0, le-ltb (length state) 232 l), rw (z .0, le-ltb (length state) 232 l) (q ∙ ap (λ (t : State). storedIn t state) (z .1)))
+
+-- ---- a burst and the closing call
+
+-- no place but 0
+no-place : (a b c d e : Bool) (n p : ℕ) → first (check 13 a ∷ check 9 b ∷ check 10 c ∷ check 1 d ∷ check 4 e ∷ []) ≡ refused n p → p ≡ 0
+unfolding first
+no-place true b c d e n p q = cc
+no-place false true c d e n p q = cc
+no-place false false true d e n p q = cc
+no-place false false false true e n p q = cc
+no-place false false false false true n p q = cc
+no-place false false false false false n p q = cc
+
+pub place-zero : (s : State) (line room n p : ℕ) → burstVerdict s line room ≡ refused n p → p ≡ 0
+unfolding burstVerdict burstChecks
+place-zero s line room n p q = no-place (ltb 1 (s .edition)) (s .closed) (badState s) (ltb 825000 (s .bytes + line)) (ltb room (roomFor s line)) n p q
+
+-- a slice too short comes before the room
+short-first : (a b c d e : Bool)
+    → first (check 13 a ∷ check 9 b ∷ check 10 c ∷ check 1 d ∷ check 4 true ∷ check 4 e ∷ []) ≡ first (check 13 a ∷ check 9 b ∷ check 10 c ∷ check 1 d ∷ check 4 true ∷ [])
+unfolding first
+short-first true b c d e = refl
+short-first false true c d e = refl
+short-first false false true d e = refl
+short-first false false false true e = refl
+short-first false false false false e = refl
+
+-- no burst is accepted into no room
+no-room : (a b c d : Bool) → first (check 13 a ∷ check 9 b ∷ check 10 c ∷ check 1 d ∷ check 4 true ∷ []) ≡ accepted → ⊥
+unfolding first
+no-room true b c d q = let z : _≡_ {A = ℕ} 0 1 = cc in omega arith
+no-room false true c d q = let z : _≡_ {A = ℕ} 0 1 = cc in omega arith
+no-room false false true d q = let z : _≡_ {A = ℕ} 0 1 = cc in omega arith
+no-room false false false true q = let z : _≡_ {A = ℕ} 0 1 = cc in omega arith
+no-room false false false false q = let z : _≡_ {A = ℕ} 0 1 = cc in omega arith
+
+room-asked : (s : State) (line : ℕ) → ltb 0 (roomFor s line) ≡ true
+room-asked s line = lt-ltb 0 (roomFor s line) (omega arith)
+
+pub never-there : (s : State) (line : ℕ) → burstVerdict s line 0 ≡ accepted → ⊥
+unfolding burstVerdict burstChecks
+never-there s line q =
+    no-room (ltb 1 (s .edition)) (s .closed) (badState s) (ltb 825000 (s .bytes + line))
+    (sym (ap (λ (b : Bool). first (check 13 (ltb 1 (s .edition)) ∷ check 9 (s .closed) ∷ check 10 (badState s) ∷ check 1 (ltb 825000 (s .bytes + line)) ∷ check 4 b ∷ [])) (room-asked s line)) ∙ q)
+
+module _ (state : List ℕ) (line room summary counters : ℕ) where
+  abbrev own : List Check
+  own = burstChecks (stateIn state) line room
+
+  -- the state is too short
+  pub short-state : length state < 232 → verdict state line room summary counters ≡ refused 4 0
+  unfolding verdict first
+  short-state l = rw (lt-ltb (length state) 232 l)
+
+  module _ (long : 232 ≤ length state) where
+    past : verdict state line room summary counters ≡ first (after 4 (check 4 (shortSlice summary counters)) own)
+    unfolding verdict
+    past = skipped (check 4 (tooShort 8 29 (length state))) (after 4 (check 4 (shortSlice summary counters)) own) (le-ltb (length state) 232 long)
+
+    -- the summary or the counters are
+    pub short-slices : shortSlice summary counters ≡ true → verdict state line room summary counters ≡ burstVerdict (stateIn state) line 0
+    unfolding burstVerdict burstChecks
+    short-slices e =
+        let s = stateIn state in
+        past
+        ∙ ap (λ (b : Bool). first (check 13 (ltb 1 (s .edition)) ∷ check 9 (s .closed) ∷ check 10 (badState s) ∷ check 1 (ltb 825000 (s .bytes + line)) ∷ check 4 b ∷ check 4 (ltb room (roomFor s line)) ∷ [])) e
+        ∙ short-first (ltb 1 (s .edition)) (s .closed) (badState s) (ltb 825000 (s .bytes + line)) (ltb room (roomFor s line))
+        ∙ ap (λ (b : Bool). first (check 13 (ltb 1 (s .edition)) ∷ check 9 (s .closed) ∷ check 10 (badState s) ∷ check 1 (ltb 825000 (s .bytes + line)) ∷ check 4 b ∷ [])) (sym (room-asked s line))
+
+    -- none is
+    pub long-slices : shortSlice summary counters ≡ false → verdict state line room summary counters ≡ burstVerdict (stateIn state) line room
+    unfolding burstVerdict
+    long-slices e = past ∙ first-after 4 (check 4 (shortSlice summary counters)) own e

@@ -1,0 +1,24 @@
+-- A reviewer can skip this file. What a reply leaves in the state, the summary and the counters.
+use Prim.Native.Nat.{ℕ, _+_, _*_, _≤_}
+use mathlib.Core.Path.{_≡_}
+use mathlib.Core.List.{List}
+use lib.ListN.{replicate}
+use Rattle.receiving.specs.Answer.{ReceiveAnswer, received, refused}
+use Rattle.counters.specs.Counters.{updated}
+use Rattle.slices.specs.Slices.{summaryWith, countersIn, countersWith, receiveLength, receiveWords}
+use Rattle.bursts.specs.declared.State.{State}
+use Rattle.bursts.specs.declared.Added.{Added}
+use Rattle.stored.specs.Stored.{storedIn}
+
+-- a refusal's place fits a result
+abbrev pub Placed : ReceiveAnswer → Type 0
+Placed (received s) = Unit
+Placed (refused number place) = place ≤ 1000000
+
+-- by the answer
+abbrev pub LeftBy : ReceiveAnswer → State → Added → (state summary counters : List ℕ) → (r : ℕ) (state′ summary′ counters′ : List ℕ) → Type 0
+LeftBy (received s) next added state summary counters r state′ summary′ counters′ =
+    (r ≡ 0) × (state′ ≡ storedIn next state) × (summary′ ≡ summaryWith receiveLength (receiveWords (received s)) summary)
+    × (counters′ ≡ countersWith (updated (countersIn counters) (added .counts) (added .handed)) counters)
+LeftBy (refused number place) next added state summary counters r state′ summary′ counters′ =
+    (r ≡ number + 256 * place) × (state′ ≡ state) × (summary′ ≡ summaryWith receiveLength (replicate receiveLength 0) summary) × (counters′ ≡ counters)

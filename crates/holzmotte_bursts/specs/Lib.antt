@@ -1,0 +1,3 @@
+pub mod Boundary
+pub mod Coded
+pub mod Joined
