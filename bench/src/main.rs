@@ -1,16 +1,21 @@
 //! The library beside a hand-written, word-parallel Rust version: same machine, same run, same input, both built for release, the
-//! buffers warm, the best of many calls. Nothing is timed before both have given the same bytes.
+//! buffers warm, the best of many calls. Nothing is timed before both have given the same bytes. Then the library alone: a line in bursts
+//! beside one call over the whole.
 mod agree;
 mod fast;
 mod traffic;
 
 use compare::library;
 use compare::reference::edition::{Edition, EDITIONS};
+use compare::reference::state::VECTORS;
 use std::hint::black_box;
 use std::time::Instant;
 use traffic::Traffic;
 
 const CALLS: usize = 200;
+
+/// Bytes of a burst: what a probe sends at a time, and more.
+const BURSTS: [(&str, usize); 2] = [("bursts of 256", 256), ("bursts of 2,048", 2_048)];
 
 /// Seconds of the best call of each of two, called in turn.
 fn best(mut one: impl FnMut(), mut other: impl FnMut()) -> [f64; 2] {
@@ -91,9 +96,14 @@ fn time_sending(edition: Edition, t: &Traffic) {
     );
 }
 
+/// The line that is received.
+fn line_of(edition: Edition, t: &Traffic) -> Vec<u8> {
+    t.line.clone().unwrap_or_else(|| library::sent(edition, &t.vectors, 0).0)
+}
+
 fn time_receiving(edition: Edition, t: &Traffic) {
     let number = edition as u64;
-    let line = t.line.clone().unwrap_or_else(|| library::sent(edition, &t.vectors, 0).0);
+    let line = line_of(edition, t);
     let (_, summary) = library::received(edition, &line);
     let row = Row { direction: direction("receive", edition), line: t.name, blocks: library::word(&summary, 0) };
     row.time(
@@ -103,13 +113,49 @@ fn time_receiving(edition: Edition, t: &Traffic) {
     );
 }
 
+/// A line in bursts of this many bytes, and the closing call. Each has the rest of the room that one call over the whole has.
+fn in_bursts(edition: u64, line: &[u8], bytes: usize, lent: &mut Lent) -> u64 {
+    let mut state = [0; library::STATE_BYTES];
+    let mut result = library::begin(edition, &mut state);
+    for burst in line.chunks(bytes) {
+        let handed_out = 10 * library::word(&state, VECTORS) as usize;
+        let room = &mut lent.out[handed_out..];
+        result |= library::burst(&mut state, burst, room, &mut lent.summary, &mut lent.counters);
+    }
+    let handed_out = 10 * library::word(&state, VECTORS) as usize;
+    result | library::close(&mut state, &mut lent.out[handed_out..], &mut lent.summary, &mut lent.counters)
+}
+
+fn time_bursts(edition: Edition, t: &Traffic, (name, bytes): (&str, usize)) {
+    let number = edition as u64;
+    let line = line_of(edition, t);
+    let (_, summary) = library::received(edition, &line);
+    let row = Row { direction: direction(name, edition), line: t.name, blocks: library::word(&summary, 0) };
+    row.time(
+        8 * line.len() / 66 * 10,
+        |lent| in_bursts(number, &line, bytes, lent),
+        |lent| library::receive(number, &line, &mut lent.out, &mut lent.summary, &mut lent.counters),
+    );
+}
+
+/// The head of a table, with what is timed beside what.
+fn print_head(one: &str, other: &str) {
+    println!("| | line | {one}, ns a block | Gbit/s | {other}, ns a block | Gbit/s | ratio |");
+    println!("|---|---|---|---|---|---|---|");
+}
+
 fn main() {
     agree::check();
-    println!("| | line | library, ns a block | Gbit/s | hand-written, ns a block | Gbit/s | ratio |");
-    println!("|---|---|---|---|---|---|---|");
+    print_head("library", "hand-written");
     for edition in EDITIONS {
         let all = traffic::all(edition);
         all.iter().for_each(|t| time_sending(edition, t));
         all.iter().for_each(|t| time_receiving(edition, t));
+    }
+    println!();
+    print_head("in bursts", "one call");
+    for edition in EDITIONS {
+        let all = traffic::all(edition);
+        BURSTS.into_iter().for_each(|burst| all.iter().for_each(|t| time_bursts(edition, t, burst)));
     }
 }

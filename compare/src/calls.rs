@@ -11,14 +11,14 @@ use crate::reference::{receiving, sending, Refusal};
 const GUARD: usize = 37;
 
 /// A slice that is lent: a guard, the slice, a guard.
-struct Lent {
+pub struct Lent {
     bytes: Vec<u8>,
     before: usize,
     len: usize,
 }
 
 impl Lent {
-    fn new(content: &[u8], random: &mut Random) -> Lent {
+    pub fn new(content: &[u8], random: &mut Random) -> Lent {
         let before = GUARD + random.below(16);
         let mut bytes = random.bytes(before);
         bytes.extend(content);
@@ -26,12 +26,12 @@ impl Lent {
         Lent { bytes, before, len: content.len() }
     }
 
-    fn slice(&mut self) -> &mut [u8] {
+    pub fn slice(&mut self) -> &mut [u8] {
         &mut self.bytes[self.before..self.before + self.len]
     }
 
     /// These bytes with `content` from the slice's start: what they should be after the call.
-    fn with(&self, content: &[u8]) -> Vec<u8> {
+    pub fn with(&self, content: &[u8]) -> Vec<u8> {
         let mut bytes = self.bytes.clone();
         bytes[self.before..self.before + content.len()].copy_from_slice(content);
         bytes
@@ -56,6 +56,14 @@ pub struct Tally {
     /// Fields of the counters that a call left at the top.
     pub full: u64,
     pub refusals: u64,
+    /// Calls of a capture that comes in bursts.
+    pub bursts: u64,
+    /// Those that end behind the first bit of a header, before a bit to skip, and with a Terminate held.
+    pub in_header: u64,
+    pub before_skip: u64,
+    pub held_end: u64,
+    /// Calls from foreign states that were accepted.
+    pub foreign: u64,
 }
 
 impl Tally {
@@ -71,6 +79,11 @@ impl Tally {
         self.low_power += other.low_power;
         self.full += other.full;
         self.refusals += other.refusals;
+        self.bursts += other.bursts;
+        self.in_header += other.in_header;
+        self.before_skip += other.before_skip;
+        self.held_end += other.held_end;
+        self.foreign += other.foreign;
     }
 
     fn add_faults(&mut self, faults: [u64; 4]) {
@@ -172,7 +185,7 @@ impl Calls {
     }
 
     /// What a refusal gives: its result, no bytes, and zeros in a summary that has room for them.
-    fn refusal(&mut self, refusal: Refusal, words: usize, room: usize) -> (u64, Vec<u8>, Vec<u8>) {
+    pub fn refusal(&mut self, refusal: Refusal, words: usize, room: usize) -> (u64, Vec<u8>, Vec<u8>) {
         self.tally.refusals += 1;
         let zeros = if room < words { 0 } else { words };
         (refusal.number + 256 * refusal.place as u64, Vec::new(), vec![0; zeros])
@@ -201,8 +214,16 @@ pub fn in_both<A: PartialEq + std::fmt::Debug>(say: impl FnMut(Edition) -> A) ->
     old
 }
 
+/// A group whose random numbers do not lead to what it is for compares nothing.
+pub fn enough(what: &str, count: u64) -> Outcome {
+    if count < 50 {
+        return Err(format!("only {count} {what}"));
+    }
+    Ok(())
+}
+
 /// Compares result and slices, guards included.
-fn same<const N: usize>(
+pub fn same<const N: usize>(
     call: &str,
     names: [&str; N],
     expected: (u64, &[Vec<u8>; N]),

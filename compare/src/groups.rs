@@ -1,9 +1,11 @@
 //! The groups of comparisons. Each is given an edition to make calls in, and random numbers with it; the first difference ends it.
 mod blocks;
+mod bursts;
 mod damage;
 mod faults;
 mod lists;
 mod refusals;
+mod states;
 
 use crate::calls::{Calls, Outcome};
 
@@ -13,7 +15,7 @@ pub struct Group {
     pub run: fn(&mut Calls) -> Outcome,
 }
 
-pub const GROUPS: [Group; 13] = [
+pub const GROUPS: [Group; 17] = [
     Group { name: "types", says: "every header and type byte in lock, edge and random payloads", run: blocks::types },
     Group { name: "octets", says: "all 256 octets in each character position of each format", run: blocks::octets },
     Group { name: "codes", says: "every code in each field of each format, unused bits set", run: blocks::codes },
@@ -31,4 +33,12 @@ pub const GROUPS: [Group; 13] = [
         says: "every refusal, unknown editions, all slices short, exact and long",
         run: refusals::refusals,
     },
+    Group {
+        name: "bursts",
+        says: "1,000 cuttings of each of twelve lines, refused calls between",
+        run: bursts::bursts,
+    },
+    Group { name: "windows", says: "1,000 cuttings around the end of a window", run: bursts::windows },
+    Group { name: "longest", says: "825,000 bytes in bursts, and one more", run: bursts::longest },
+    Group { name: "states", says: "states of any numbers, judged and gone on from", run: states::states },
 ];

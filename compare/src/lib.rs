@@ -1,5 +1,7 @@
 //! The library beside an independent second program, compared byte for byte.
+pub mod bursts;
 pub mod calls;
+pub mod captures;
 pub mod groups;
 pub mod library;
 pub mod lines;

@@ -23,6 +23,29 @@ extern "C" {
         counters: *mut u8,
         counters_len: usize,
     ) -> u64;
+    fn holzmotte_begin(edition: u64, state: *mut u8, state_len: usize) -> u64;
+    fn holzmotte_burst(
+        state: *mut u8,
+        state_len: usize,
+        line: *const u8,
+        line_len: usize,
+        vectors: *mut u8,
+        vectors_len: usize,
+        summary: *mut u8,
+        summary_len: usize,
+        counters: *mut u8,
+        counters_len: usize,
+    ) -> u64;
+    fn holzmotte_close(
+        state: *mut u8,
+        state_len: usize,
+        vectors: *mut u8,
+        vectors_len: usize,
+        summary: *mut u8,
+        summary_len: usize,
+        counters: *mut u8,
+        counters_len: usize,
+    ) -> u64;
 }
 
 /// Sends a list: 0, or refusal number + 256 x place.
@@ -60,10 +83,53 @@ pub fn receive(edition: u64, line: &[u8], vectors: &mut [u8], summary: &mut [u8]
     }
 }
 
+/// A fresh state: 0, or a refusal's number.
+pub fn begin(edition: u64, state: &mut [u8]) -> u64 {
+    // Safety: as above.
+    unsafe { holzmotte_begin(edition, state.as_mut_ptr(), state.len()) }
+}
+
+/// The next bytes of a line: 0, or a refusal's number.
+pub fn burst(state: &mut [u8], line: &[u8], vectors: &mut [u8], summary: &mut [u8], counters: &mut [u8]) -> u64 {
+    // Safety: as above.
+    unsafe {
+        holzmotte_burst(
+            state.as_mut_ptr(),
+            state.len(),
+            line.as_ptr(),
+            line.len(),
+            vectors.as_mut_ptr(),
+            vectors.len(),
+            summary.as_mut_ptr(),
+            summary.len(),
+            counters.as_mut_ptr(),
+            counters.len(),
+        )
+    }
+}
+
+/// The end of a line that came in bursts: 0, or a refusal's number.
+pub fn close(state: &mut [u8], vectors: &mut [u8], summary: &mut [u8], counters: &mut [u8]) -> u64 {
+    // Safety: as above.
+    unsafe {
+        holzmotte_close(
+            state.as_mut_ptr(),
+            state.len(),
+            vectors.as_mut_ptr(),
+            vectors.len(),
+            summary.as_mut_ptr(),
+            summary.len(),
+            counters.as_mut_ptr(),
+            counters.len(),
+        )
+    }
+}
+
 /// The words of receiving's summary, and its bytes.
 pub const RECEIVE_WORDS: usize = 12;
 pub const RECEIVE_SUMMARY_BYTES: usize = 8 * RECEIVE_WORDS;
 pub const COUNTERS_BYTES: usize = 32;
+pub const STATE_BYTES: usize = 232;
 
 /// Word `i` of a summary.
 pub fn word(summary: &[u8], i: usize) -> u64 {

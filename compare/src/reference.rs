@@ -5,9 +5,12 @@ pub mod counters;
 pub mod diagrams;
 pub mod edition;
 pub mod fault;
+pub mod kept;
 pub mod receiving;
+pub mod resumed;
 pub mod scrambler;
 pub mod sending;
+pub mod state;
 pub mod vector;
 
 /// A refusal: its number and its place.

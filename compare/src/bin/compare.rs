@@ -89,6 +89,11 @@ fn round(options: &Options, seed: u64) -> (usize, usize) {
         "frames begun: {}, vectors replaced: {}, low power idle: {}; counters at the top: {}",
         total.begun, total.replaced, total.low_power, total.full
     );
+    println!(
+        "calls of captures in bursts: {}, accepted from foreign states: {}; they end inside a header: {}, before a bit to skip: {}, \
+         before a Terminate is answered: {}",
+        total.bursts, total.foreign, total.in_header, total.before_skip, total.held_end
+    );
     (passed, failed)
 }
 

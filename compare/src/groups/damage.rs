@@ -8,7 +8,7 @@ use crate::reference::diagrams::WINDOW;
 use crate::reference::edition::{Edition, EDITIONS};
 
 /// A good line of `n` blocks, sent in this edition, that locks at once.
-fn good(edition: Edition, n: usize, random: &mut Random) -> Line {
+pub fn good(edition: Edition, n: usize, random: &mut Random) -> Line {
     let strays = random.pick(&[0, 20]);
     let vectors = list_after_lock(edition, n, strays, random);
     Line::of_list(edition, &vectors, random.start_state())
@@ -48,7 +48,7 @@ pub fn noise(calls: &mut Calls) -> Outcome {
 }
 
 /// Data and control blocks whose payload bits are fair coins, so that a wrong position shows an invalid header soon.
-fn hunted(n: usize, random: &mut Random) -> Line {
+pub fn hunted(n: usize, random: &mut Random) -> Line {
     let blocks: Vec<Block> =
         (0..n).map(|_| if random.once_in(2) { lines::data(random) } else { lines::control(random) }).collect();
     Line::of_blocks(&blocks, random.start_state())
@@ -94,7 +94,7 @@ pub fn lock(calls: &mut Calls) -> Outcome {
 }
 
 /// Spoils `count` headers of a window that begins at block `from`, its first and last blocks among them at times.
-fn spoil_window(line: &mut Line, from: usize, count: usize, random: &mut Random) {
+pub fn spoil_window(line: &mut Line, from: usize, count: usize, random: &mut Random) {
     let window = WINDOW as usize;
     let mut blocks = Vec::new();
     while blocks.len() < count {

@@ -1,6 +1,4 @@
 //! Request 3/13: "One record of counters for the firmware."
-use super::receiving::Received;
-
 /// "Tested, slips, the four reasons, frames begun, vectors replaced."
 pub const FIELDS: usize = 8;
 pub const COUNTERS_BYTES: usize = 4 * FIELDS;
@@ -13,10 +11,7 @@ pub const TOP: u32 = 4_294_967_295;
 
 impl Counters {
     /// "Each field becomes its old number plus what this receiving call added, and stays at 4,294,967,295 once it would pass that."
-    pub fn add(&mut self, call: &Received) {
-        let [header, type_byte, control_code, set_code] = call.faults();
-        let (tested, begun, replaced) = (call.blocks.len() as u64, call.begun(), call.replaced());
-        let added = [tested, call.slips, header, type_byte, control_code, set_code, begun, replaced];
+    pub fn add(&mut self, added: [u64; FIELDS]) {
         for (field, added) in self.0.iter_mut().zip(added) {
             *field = (*field as u64 + added).min(TOP as u64) as u32;
         }

@@ -1,6 +1,6 @@
 //! Receiving a line.
 use super::block::{decode, kind, Block, Kind};
-use super::counters::{Counters, COUNTERS_BYTES};
+use super::counters::{Counters, COUNTERS_BYTES, FIELDS};
 use super::diagrams::{receive as step, ErrorRate, Lock, State};
 use super::edition::Edition;
 use super::fault::{fault, Fault, FAULTS};
@@ -15,12 +15,15 @@ pub struct Received {
     pub edition: Edition,
     /// The tested blocks, descrambled.
     pub blocks: Vec<Block>,
-    /// The receive diagram's state at each of them.
+    /// The receive diagram's state at each of them that is answered.
     pub states: Vec<State>,
     pub vectors: Vec<u8>,
     pub slips: u64,
-    pub locked: bool,
-    pub high: bool,
+    pub lock: Lock,
+    pub rate: ErrorRate,
+    pub scrambler: Scrambler,
+    /// The line bit with which the next block begins: behind the last tested one, and behind the bit that its slip skips.
+    pub at: usize,
 }
 
 impl Received {
@@ -35,7 +38,7 @@ impl Received {
     pub fn alone(&self) -> bool {
         let accepted =
             |last| kind(self.edition, last) == Kind::T && self.vectors.ends_with(&decode(self.edition, last));
-        self.blocks.last().is_some_and(accepted)
+        self.states.len() == self.blocks.len() && self.blocks.last().is_some_and(accepted)
     }
 
     /// "Begun means a block of kind S answered as decoded".
@@ -50,10 +53,17 @@ impl Received {
         self.states.iter().filter(|state| **state == State::E).count() as u64
     }
 
+    /// What the counters count: "tested, slips, the four reasons, frames begun, vectors replaced".
+    pub fn counted(&self) -> [u64; FIELDS] {
+        let [header, type_byte, control_code, set_code] = self.faults();
+        let tested = self.blocks.len() as u64;
+        [tested, self.slips, header, type_byte, control_code, set_code, self.begun(), self.replaced()]
+    }
+
     /// The summary as it crosses the C boundary; word 4 is the number of vectors.
     pub fn summary(&self) -> Vec<u8> {
         let (tested, vectors) = (self.blocks.len() as u64, self.vectors.len() as u64 / 10);
-        let first = [tested, self.slips, self.locked as u64, self.high as u64, vectors];
+        let first = [tested, self.slips, self.lock.locked as u64, self.rate.high as u64, vectors];
         let last = [self.alone() as u64, self.begun(), self.replaced()];
         first.into_iter().chain(self.faults()).chain(last).flat_map(u64::to_le_bytes).collect()
     }
@@ -82,20 +92,20 @@ pub fn receive(
     };
     let received = receive_all(edition, line);
     let mut total = Counters::of_bytes(record);
-    total.add(&received);
+    total.add(received.counted());
     *record = total.bytes();
     Ok(received)
 }
 
 /// A tested block, descrambled, and whether testing it left the receiver locked and not high.
-struct Tested {
-    block: Block,
-    up: bool,
+pub struct Tested {
+    pub block: Block,
+    pub up: bool,
 }
 
 impl Tested {
     /// "The next block counts as E if testing it leaves the receiver not locked or high".
-    fn counts_as(&self, edition: Edition) -> Kind {
+    pub fn counts_as(&self, edition: Edition) -> Kind {
         if self.up {
             kind(edition, &self.block)
         } else {
@@ -104,7 +114,8 @@ impl Tested {
     }
 }
 
-fn receive_all(edition: Edition, line: &[u8]) -> Received {
+/// A line that is not refused, from a fresh receiver.
+pub fn receive_all(edition: Edition, line: &[u8]) -> Received {
     let mut lock = Lock::default();
     let mut rate = ErrorRate::default();
     let mut scrambler = Scrambler { state: 0 };
@@ -127,7 +138,7 @@ fn receive_all(edition: Edition, line: &[u8]) -> Received {
     let states = states(edition, &tested);
     let blocks: Vec<Block> = tested.into_iter().map(|tested| tested.block).collect();
     let vectors = states.iter().zip(&blocks).flat_map(|(state, block)| answer(edition, *state, block)).collect();
-    Received { edition, blocks, states, vectors, slips, locked: lock.locked, high: rate.high }
+    Received { edition, blocks, states, vectors, slips, lock, rate, scrambler, at }
 }
 
 fn block_at(line: &[u8], at: usize) -> Block {
