@@ -6,7 +6,7 @@ NATIVE := target/native/libholzmotte.a
 native: $(NATIVE)
 
 $(NATIVE): tools/native crates.txt $(shell find crates -name '*.rt' -o -name '*.antt')
-	tools/native holzmotte
+	tools/native
 
 targets rust: $(NATIVE)
 	tools/$@
