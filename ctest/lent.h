@@ -1,7 +1,7 @@
 /* What the tests from C share: checks in groups, buffers beside protected pages, vectors by name, the stack that a call takes.
  *
- * Every group runs twice: each lent buffer ends at a page that cannot be touched, then each begins right behind one, so that one byte too far
- * on either side is a crash. Those that do not choose an edition themselves run so in each of the two. */
+ * Every group runs twice: each lent buffer ends at a page that cannot be touched, then each begins right behind one, so that one byte too
+ * far on either side is a crash. Those that do not choose an edition themselves run so in each of the two. */
 #define _DEFAULT_SOURCE
 #include "holzmotte.h"
 
@@ -17,18 +17,12 @@ static int checks, wrong;   /* in the group at hand */
 
 #define CHECK(e) (checks++, (e) ? (void)0 : (void)(wrong++, printf("FAILED, line %d: %s\n", __LINE__, #e)))
 
-/* The mappings that are lent at present. */
+/* The mappings of the group at hand. */
 static struct {
     uint8_t *at;
     size_t bytes;
 } mapped[8192];
 static size_t mappings;
-
-static void take_back(void)
-{
-    while (mappings > 0 && munmap(mapped[mappings - 1].at, mapped[mappings - 1].bytes) == 0)
-        mappings--;
-}
 
 /* Ends a group of checks. */
 static void group(const char *says)
@@ -36,24 +30,40 @@ static void group(const char *says)
     printf("%s, %d checks: %s\n", wrong == 0 ? "passed" : "FAILED", checks, says);
     *(wrong == 0 ? &passed : &failed) += 1;
     checks = wrong = 0;
-    take_back();
+    while (mappings > 0 && munmap(mapped[mappings - 1].at, mapped[mappings - 1].bytes) == 0)
+        mappings--;
 }
 
 static int at_start; /* do buffers begin right behind a protected page, or else end at one? */
 
-/* n bytes with a protected page before and behind them, next to one of the two; they are lent until they are taken back. */
-static uint8_t *guarded(size_t n)
+static size_t page_bytes(void) { return (size_t)sysconf(_SC_PAGESIZE); }
+
+/* Whole pages of memory, with a protected page before and behind them. */
+static uint8_t *fenced(size_t bytes)
 {
-    size_t page = (size_t)sysconf(_SC_PAGESIZE), inside = (n + page - 1) / page * page;
-    uint8_t *p = mmap(NULL, page + inside + page, PROT_NONE, MAP_PRIVATE | MAP_ANONYMOUS, -1, 0);
-    if (p == MAP_FAILED || mappings == sizeof mapped / sizeof *mapped ||
-        (inside > 0 && mprotect(p + page, inside, PROT_READ | PROT_WRITE) != 0)) {
-        perror("guarded");
+    uint8_t *p = mmap(NULL, page_bytes() + bytes + page_bytes(), PROT_NONE, MAP_PRIVATE | MAP_ANONYMOUS, -1, 0);
+    if (p == MAP_FAILED || (bytes > 0 && mprotect(p + page_bytes(), bytes, PROT_READ | PROT_WRITE) != 0)) {
+        perror("fenced");
         exit(2);
     }
-    mapped[mappings].at = p;
-    mapped[mappings++].bytes = page + inside + page;
-    return at_start ? p + page : p + page + inside - n;
+    return p + page_bytes();
+}
+
+/* n bytes of fenced pages, next to one of the two protected ones. */
+static uint8_t *beside_fence(uint8_t *pages, size_t bytes, size_t n) { return at_start ? pages : pages + bytes - n; }
+
+/* n bytes beside a protected page; they are lent until the group ends. */
+static uint8_t *guarded(size_t n)
+{
+    size_t bytes = (n + page_bytes() - 1) / page_bytes() * page_bytes();
+    uint8_t *pages = fenced(bytes);
+    if (mappings == sizeof mapped / sizeof *mapped) {
+        puts("guarded: too many mappings");
+        exit(2);
+    }
+    mapped[mappings].at = pages - page_bytes();
+    mapped[mappings++].bytes = page_bytes() + bytes + page_bytes();
+    return beside_fence(pages, bytes, n);
 }
 
 /* Are these n bytes all b? */
