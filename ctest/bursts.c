@@ -890,6 +890,22 @@ static void held_blocks(void)
     group("a held block of each kind, in each state of the diagram, before each kind of block and before the end");
 }
 
+/* A window that has counted blocks without lock, to which no line leads: a block clears it, the one that gives lock too. */
+static void window_without_lock(void)
+{
+    for (uint64_t tested = 0; tested <= 63; tested++)
+        for (int k = 0; k < 3; k++) {
+            lend_fresh();
+            lend_rest(9, HOLZMOTTE_BURST_ROOM(9));
+            put(HOLZMOTTE_STATE_LOCK_TESTED, tested);
+            put(HOLZMOTTE_STATE_WINDOW_BLOCKS, (const uint64_t[]){1, 100, 19530}[k]);
+            put_block(1, 0x1e);
+            CHECK(burst_judged() == HOLZMOTTE_DONE && word(HOLZMOTTE_STATE_LOCKED) == (tested == 63));
+            CHECK(word(HOLZMOTTE_STATE_WINDOW_BLOCKS) == 0);
+        }
+    group("a window begins with the block after the one that gave lock, whatever stood there");
+}
+
 /* ---- short slices, and the order of refusals */
 
 static void rooms_of_every_length(void)
@@ -1131,6 +1147,7 @@ static void in_each_edition(void)
     no_such_kind();
     skipped_with_carried();
     held_blocks();
+    window_without_lock();
     rooms_of_every_length();
     short_slices();
     longer_slices();
