@@ -49,8 +49,8 @@ extern "C" {
 #define HOLZMOTTE_VERSION_PATCH 0
 #define HOLZMOTTE_VERSION "0.7.0"
 
-/* So much stack is enough for a call. This is tested, not proved: measured on x86-64, sending takes up to 7.0 KB and receiving up to
- * 7.5 KB; an earlier version took 7.5 KB and 7.2 KB on 64-bit Arm. */
+/* So much stack is enough for a call. This is tested, not proved: measured on x86-64, sending takes up to 7.0 KB, receiving 7.5 KB, a burst
+ * 8.9 KB and the closing call 1.2 KB; an earlier version took 7.5 KB to send and 7.2 KB to receive on 64-bit Arm. */
 #define HOLZMOTTE_STACK_BYTES 16384
 
 /* Sizes, in bytes. */
@@ -64,8 +64,8 @@ extern "C" {
 #define HOLZMOTTE_COUNTERS_BYTES 32
 #define HOLZMOTTE_STATE_BYTES 232
 
-/* The room that sending wants for its line, and receiving for its vectors (also where slips leave fewer vectors than fit). A burst wants at
- * most so much for its vectors, whatever bits its state carries, and the closing call 10 bytes, which is HOLZMOTTE_BURST_ROOM(0). */
+/* The room that sending wants for its line, and receiving for its vectors (also where slips leave fewer vectors than fit). For a burst the
+ * third is enough whatever its state is, and for the closing call 10 bytes, which is HOLZMOTTE_BURST_ROOM(0). */
 #define HOLZMOTTE_LINE_ROOM(vector_bytes) ((size_t)(vector_bytes) / 40 * 33)
 #define HOLZMOTTE_VECTOR_ROOM(line_bytes) ((size_t)(line_bytes) * 8 / 66 * 10)
 #define HOLZMOTTE_BURST_ROOM(line_bytes) (((size_t)(line_bytes) * 8 + 65) / 66 * 10 + 10)
@@ -172,7 +172,7 @@ static inline uint8_t holzmotte_octet(const uint8_t *vector, int i) { return vec
  *   - It leads to state E of the receive diagram (it is bad, or out of turn): the error vector.
  *   - Else: the block, decoded.
  * By the vector alone the first of these cannot be told from a Local Fault that the far end sent. The summary says whether the receiver is
- * locked and the error rate high at the end of the line (words 2 and 3); for an earlier place receive the line up to there (bursts do).
+ * locked and the error rate high at the end of the line (words 2 and 3); for an earlier place receive the line up to there, as in bursts.
  *
  * What comes back. A list of which sending replaced no vector (word 2 of its summary is 0) and whose first 64 vectors are of kind C comes
  * back unchanged from vector 63 on, in either edition. This is proved.
@@ -240,8 +240,8 @@ enum holzmotte_receive_word {
 
 /* The counters: a running total that the caller keeps, eight 32-bit numbers, least significant byte first, number i at byte 4 * i. It
  * begins as 32 zero bytes. Each receiving call adds to each number what the call itself counted, which is the word of the same name in
- * its summary, or, in bursts, what that word has gained since the call before; a number that would pass HOLZMOTTE_COUNTER_FULL stays
- * there. A refused call changes none. A caller who wants no total lends 32 bytes and ignores them. */
+ * its summary, or, in bursts, what that word has gained since the last call that was not refused; a number that would pass
+ * HOLZMOTTE_COUNTER_FULL stays there. A refused call changes none. A caller who wants no total lends 32 bytes and ignores them. */
 enum holzmotte_counter_number {
     HOLZMOTTE_COUNT_TESTED = 0,
     HOLZMOTTE_COUNT_SLIPS = 1,
@@ -328,12 +328,13 @@ uint64_t holzmotte_receive(uint64_t edition, const uint8_t *line, size_t line_le
  *     }
  *
  * What is the same. However the bytes are cut, into bursts of no bytes too: the vectors of all calls joined, the closing call's summary,
- * and counters that were lent to these calls and to no other, are those of one holzmotte_receive over the whole. This is proved.
+ * and counters that were lent to these calls and to no other, are those of one holzmotte_receive over the whole in that edition. Calls
+ * that were refused count for nothing in this. This is proved.
  *
  * What a call hands out. A burst tests each block that its bytes make whole. It hands out the vectors of all blocks tested so far but the
  * last, as far as no call before did: the last one is held, for what follows may decide how it is answered. The closing call hands out
- * the vector that is held, if there is one. So a call writes ten bytes for each vector by which word 4 of its summary has grown since
- * the call before; holzmotte_begin counts as a call with 0 there.
+ * the vector that is held, if there is one. So a call hands out as many vectors as word 4 of its summary has gained since the last call
+ * that was not refused, or since 0 in the first: ten bytes each, from the start of `vectors`.
  *
  * A burst of no bytes is no end of the line, and hands out nothing. Only the closing call is an end.
  *
@@ -372,7 +373,7 @@ enum holzmotte_state_word {
     HOLZMOTTE_STATE_CARRIED_HEADER = 10,     /* the first two of them, the first lowest */
     HOLZMOTTE_STATE_CARRIED_PAYLOAD = 11,    /* the others, the first lowest */
     HOLZMOTTE_STATE_SKIP = 12,               /* flag: the next line bit is skipped, for a slip */
-    HOLZMOTTE_STATE_DIAGRAM = 13,            /* the receive diagram after what bursts handed out: at most 4, in the new edition 5 */
+    HOLZMOTTE_STATE_DIAGRAM = 13,            /* the receive diagram, as the next vector finds it: at most 4, in the new edition 5 */
     HOLZMOTTE_STATE_HELD = 14,               /* flag: a block is held */
     HOLZMOTTE_STATE_HELD_ON = 15,            /* flag: it left the receiver locked and the error rate not high */
     HOLZMOTTE_STATE_HELD_KIND = 16,          /* its kind: D, C, S, T, E and LI are 0 to 5 */
