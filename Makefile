@@ -1,5 +1,5 @@
 # make            lists these
-# make demo       a small capture is sent, damaged and read back, in plain words
+# make demo       a small capture is sent, damaged and read back, also in bursts, in plain words
 # make test       the gate: every proof, every must-fail edit, every program and every outside check
 # make native     target/native/libholzmotte.a for the machine at hand
 # make targets    the same for Android and Apple on 64-bit Arm: target/native/TARGET/libholzmotte.a, compiled and not run

@@ -1,70 +1,10 @@
-/* The library from C, by its header alone. Every group runs twice: each lent buffer ends at a page that cannot be touched, then each begins
- * right behind one, so that one byte too far on either side is a crash. Those that do not choose an edition themselves run so in each of
- * the two. What the bytes should be is in the comparison with the second program; here it is what may be touched, what is refused, what
- * stays as it was, and what the header says in numbers and examples. */
-#define _DEFAULT_SOURCE
-#include "holzmotte.h"
-
-#include <pthread.h>
-#include <stdio.h>
-#include <stdlib.h>
-#include <string.h>
-#include <sys/mman.h>
-#include <unistd.h>
-
-static int passed, failed; /* groups of checks */
-static int checks, wrong;   /* in the group at hand */
-
-#define CHECK(e) (checks++, (e) ? (void)0 : (void)(wrong++, printf("FAILED, line %d: %s\n", __LINE__, #e)))
-
-/* The mappings of the group at hand. */
-static struct {
-    uint8_t *at;
-    size_t bytes;
-} mapped[8192];
-static size_t mappings;
-
-/* Ends a group of checks. */
-static void group(const char *says)
-{
-    printf("%s, %d checks: %s\n", wrong == 0 ? "passed" : "FAILED", checks, says);
-    *(wrong == 0 ? &passed : &failed) += 1;
-    checks = wrong = 0;
-    while (mappings > 0 && munmap(mapped[mappings - 1].at, mapped[mappings - 1].bytes) == 0)
-        mappings--;
-}
-
-static int at_start; /* do buffers begin right behind a protected page, or else end at one? */
-
-/* n bytes with a protected page before and behind them, next to one of the two; they are lent until the group ends. */
-static uint8_t *guarded(size_t n)
-{
-    size_t page = (size_t)sysconf(_SC_PAGESIZE), inside = (n + page - 1) / page * page;
-    uint8_t *p = mmap(NULL, page + inside + page, PROT_NONE, MAP_PRIVATE | MAP_ANONYMOUS, -1, 0);
-    if (p == MAP_FAILED || mappings == sizeof mapped / sizeof *mapped ||
-        (inside > 0 && mprotect(p + page, inside, PROT_READ | PROT_WRITE) != 0)) {
-        perror("guarded");
-        exit(2);
-    }
-    mapped[mappings].at = p;
-    mapped[mappings++].bytes = page + inside + page;
-    return at_start ? p + page : p + page + inside - n;
-}
-
-/* Are these n bytes all b? */
-static int all(const uint8_t *p, size_t n, uint8_t b)
-{
-    for (size_t i = 0; i < n; i++)
-        if (p[i] != b)
-            return 0;
-    return 1;
-}
+/* Sending and receiving from C, by the header alone. What the bytes should be is in the comparison with the second program; here it is what
+ * may be touched, what is refused, what stays as it was, and what the header says in numbers and examples. */
+#include "lent.h"
 
 #define ROOM 0xa5
 #define SUMMARY 0x5a
 #define COUNTERS 0xc3
-
-static uint64_t edition; /* of the calls */
 
 /* The buffers of one call: `in` is read, `out`, `summary` and receiving's `counters` are lent. */
 static uint8_t *in, *out, *summary, *counters;
@@ -87,9 +27,6 @@ static void lend(size_t in_bytes, size_t out_bytes, size_t summary_bytes)
     memset(summary, SUMMARY, summary_len);
     lend_counters(HOLZMOTTE_COUNTERS_BYTES, 0);
 }
-
-static const uint8_t IDLE[] = HOLZMOTTE_IDLE_VECTOR, LOW_POWER[] = HOLZMOTTE_LOW_POWER_IDLE_VECTOR, ERROR[] = HOLZMOTTE_ERROR_VECTOR;
-static const uint8_t LOCAL_FAULT[] = HOLZMOTTE_LOCAL_FAULT_VECTOR, REMOTE_FAULT[] = HOLZMOTTE_REMOTE_FAULT_VECTOR;
 
 /* Eight idles, again and again; a length that is no multiple of ten ends inside one. */
 static void idles(void)
@@ -291,9 +228,6 @@ static void bad_blocks(void)
     group("bad blocks, one at a time, each counted under its reason");
 }
 
-#define START "\x01\xfb\x55\x55\x55\x00\x55\x55\x55\xd5"
-#define TERMINATE "\x0f\xfd\x07\x07\x07\x0f\x07\x07\x07\x07"
-
 /* The line of idles and a frame of two vectors, up to its end and longer by every number of bytes up to four blocks. The block after
  * the frame is whole with its ninth byte. */
 static void last_frame(void)
@@ -312,8 +246,6 @@ static void last_frame(void)
     }
     group("a line that stops at the end of a frame, and longer ones");
 }
-
-#define ERRORS "\x0f\xfe\xfe\xfe\xfe\x0f\xfe\xfe\xfe\xfe"
 
 /* Lends vectors: idles, three errors, three frames. */
 static void lend_frame_vectors(void)
@@ -618,11 +550,6 @@ static void lists_in_two_calls(void)
     group("lists sent in two calls: between frames as in one call, inside a frame with one vector replaced");
 }
 
-#define IDLES "\x0f\x07\x07\x07\x07\x0f\x07\x07\x07\x07"
-#define LOW "\x0f\x06\x06\x06\x06\x0f\x06\x06\x06\x06"
-#define OCTETS "\x00Holz\x00mott"
-#define LOCAL "\x01\x9c\x00\x00\x01\x01\x9c\x00\x00\x01"
-
 /* Lends vectors: 64 idle; a frame, low power idle, a Local Fault and idles that wake the link; a frame and low power idle. */
 #define SAVING 76
 static void lend_saving_vectors(void)
@@ -883,36 +810,6 @@ static void stored_runs(void)
     group("the stored runs of the two programs, in the old edition");
 }
 
-/* A thread's stack that is painted before it runs: what the call touched is not paint any more. */
-#define PAINTED_BYTES ((size_t)1 << 19)
-#define PAINT 0x5c
-static uint64_t (*painted_call)(void);
-static uint8_t *before_call;
-
-static void *on_painted_stack(void *unused)
-{
-    uint8_t here;
-    before_call = &here;
-    painted_call();
-    return unused;
-}
-
-/* The bytes of stack that a call takes. */
-static size_t stack_of(uint64_t (*call)(void))
-{
-    uint8_t *lowest = guarded(PAINTED_BYTES), *stack = lowest;
-    pthread_attr_t attributes;
-    pthread_t thread;
-    painted_call = call;
-    memset(stack, PAINT, PAINTED_BYTES);
-    CHECK(pthread_attr_init(&attributes) == 0 && pthread_attr_setstack(&attributes, stack, PAINTED_BYTES) == 0);
-    CHECK(pthread_create(&thread, &attributes, on_painted_stack, NULL) == 0 && pthread_join(thread, NULL) == 0);
-    while (*lowest == PAINT)
-        lowest++;
-    CHECK(lowest > stack && before_call > lowest && before_call < stack + PAINTED_BYTES);
-    return (size_t)(before_call - lowest);
-}
-
 static uint64_t sends_from_0(void) { return sends(0); }
 
 /* The most that the calls took so far. */
@@ -954,7 +851,7 @@ static void version_and_texts(void)
     snprintf(version, sizeof version, "%d.%d.%d", HOLZMOTTE_VERSION_MAJOR, HOLZMOTTE_VERSION_MINOR, HOLZMOTTE_VERSION_PATCH);
     CHECK(strcmp(version, HOLZMOTTE_VERSION) == 0);
     for (int i = -1; i <= 14; i++) {
-        CHECK((strcmp(holzmotte_refusal_text(i), "unknown") == 0) == (i < 0 || (i > 8 && i != 13)));
+        CHECK((strcmp(holzmotte_refusal_text(i), "unknown") == 0) == (i < 0 || i == 11 || i == 12 || i == 14));
         for (int k = -1; k < i; k++)
             CHECK(strcmp(holzmotte_refusal_text(i), holzmotte_refusal_text(k)) != 0 || strcmp(holzmotte_refusal_text(i), "unknown") == 0);
     }
@@ -996,17 +893,4 @@ static void besides(void)
     version_and_texts();
 }
 
-int main(void)
-{
-    for (at_start = 0; at_start <= 1; at_start++) {
-        const char *where = at_start ? "begin right behind a protected page" : "end at a protected page";
-        for (edition = HOLZMOTTE_EDITION_OLD; edition <= HOLZMOTTE_EDITION_NEW; edition++) {
-            printf("the %s edition, buffers %s:\n", edition == HOLZMOTTE_EDITION_OLD ? "old" : "new", where);
-            in_each_edition();
-        }
-        printf("both editions, buffers %s:\n", where);
-        besides();
-    }
-    printf("%d passed, %d failed\n", passed, failed);
-    return failed != 0;
-}
+int main(void) { return run_groups(in_each_edition, besides); }

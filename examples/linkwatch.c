@@ -1,125 +1,59 @@
-/* linkwatch [--energy-saving] CAPTURE ...: tells a person what a 10GBASE-R link was saying, from capture files of line records.
+/* linkwatch [--energy-saving] CAPTURE ...: tells a person what a 10GBASE-R link says, from captures of line records. A capture is a file,
+ * or a pipe into which a probe writes: it is told as it comes, in memory that does not grow.
+ *
+ * Each record's line bytes are a burst for the library. linkwatch prints one line for each run of vectors that say the same, as soon as the
+ * run is over, and at the end how many blocks were bad and why, and how many frames began. After several captures it prints the total.
+ * All that it tells of a link stands in the vectors, summaries and counters that the library answered. A block takes 6.4 ns on the line.
  *
  * A capture does not say whether Energy Efficient Ethernet was on. With --energy-saving captures are received in the new edition (the
  * header, "The editions of Clause 49"), and it tells how many vectors were low power idle. Without it they are received in the old one,
  * where low power idle is an error, and it says where the new one finds fewer control code faults.
  *
- * It gathers a file's line bytes, has the library receive them, and prints how many blocks were bad and why, how many frames began, and
- * one line for each run of vectors that say the same. After several files it prints the total. All that it tells of a link stands in the
- * vectors, summaries and counters that the library answered. A block takes 6.4 ns on the line.
- *
  * It looks at control characters and ordered sets, and at no other data. A few flipped bits, in the new edition one, show as errors, or
  * else change data octets alone (the header, "What damage can do"): a frame may have wrong data, and a fault may have been another ordered
  * set. Clause 46 wants four of a fault, so a run of fewer is marked.
  *
- * A file that ends inside a record is told up to that record. One that is refused for another reason, or cannot be read, adds nothing to
- * the total, and the next one is told. The exit status is 0, 1 where a file was refused or ends inside a record, 2 where one could not be
- * read, and 3 where the output could not be written. */
+ * A receiver takes 825,000 bytes. Of a longer capture each such part is told by itself, by a fresh receiver, which has to find lock first.
+ *
+ * A capture that has to be refused, or cannot be read any more, is told up to that record, and the next one follows. The exit status is 0,
+ * 1 where a capture was refused, 2 where one could not be read, and 3 where the output could not be written. */
 #include "holzmotte.h"
 
 #include <errno.h>
 #include <signal.h>
 #include <stdio.h>
+#include <stdlib.h>
 #include <string.h>
 
 static const char USAGE[] =
     "usage: linkwatch [--energy-saving] CAPTURE ...\n"
-    "A capture is a file of records: body length and kind (two bytes each, least significant first), then the body. All are of kind 2,\n"
-    "line bytes: at most 4,092 in a record, and 825,000 in a file.\n"
+    "A capture is a file, or a pipe such as /dev/stdin, of records: body length and kind (two bytes each, least significant first), then\n"
+    "the body. All are of kind 2, line bytes, at most 4,092 in a record. They are told as they come, in parts of at most 825,000 bytes.\n"
     "--energy-saving is for links that have Energy Efficient Ethernet (IEEE 802.3az) on: low power idle is then no error.\n";
 
 #define MOST_BODY 4092
 
-static uint8_t line[HOLZMOTTE_MAX_LINE_BYTES + MOST_BODY], vectors[HOLZMOTTE_MAX_VECTOR_BYTES];
-static uint8_t summary[HOLZMOTTE_RECEIVE_SUMMARY_BYTES], summary_at_lock[HOLZMOTTE_RECEIVE_SUMMARY_BYTES];
-static uint8_t total[HOLZMOTTE_COUNTERS_BYTES], not_told[HOLZMOTTE_COUNTERS_BYTES]; /* not_told: of calls that look for lock */
-static size_t line_len, place; /* place: of the record that is read */
-static size_t lock_len;        /* the line up to the byte with which lock first came; 0 without lock */
-static int told;               /* captures in the total */
+/* What the library is given again with each burst, and its summary: the last one, and the one with which lock first came. */
+struct receiver {
+    uint8_t state[HOLZMOTTE_STATE_BYTES];
+    uint8_t summary[HOLZMOTTE_RECEIVE_SUMMARY_BYTES], at_lock[HOLZMOTTE_RECEIVE_SUMMARY_BYTES];
+};
+static struct receiver watched, in_new; /* in_new: the same line in the new edition, for its control code faults alone */
+static uint8_t vectors[HOLZMOTTE_BURST_ROOM(MOST_BODY)];
+static uint8_t total[HOLZMOTTE_COUNTERS_BYTES], not_told[HOLZMOTTE_COUNTERS_BYTES]; /* not_told: what in_new counts */
+static unsigned long lock, low_power; /* blocks tested when lock first came, or 0; vectors of low power idle */
+static size_t place, heard;           /* of the record that is read; line bytes before it */
+static const char *whole;             /* what a summary speaks of */
+static int told;                      /* captures in the total */
 static uint64_t edition = HOLZMOTTE_EDITION_OLD;
 
-/* Gathers the line bytes of a capture file: 0, or the number of the first refusal. A record is body length (2 bytes), kind (2 bytes;
- * 1 vectors, 2 line bytes) and body. */
-static int gather(FILE *file)
+static unsigned long word(enum holzmotte_receive_word i) { return (unsigned long)holzmotte_word(watched.summary, i); }
+
+/* What a word of the summary has gained since lock first came, or all of it without lock. */
+static unsigned long since_lock(const struct receiver *r, enum holzmotte_receive_word i)
 {
-    uint8_t head[4] = {0};
-    size_t got;
-    line_len = 0;
-    for (place = 0; (got = fread(head, 1, 4, file)) > 0; place += 4 + (head[0] + 256u * head[1])) {
-        size_t body = head[0] + 256u * head[1], kind = head[2] + 256u * head[3];
-        if (got < 4)
-            return HOLZMOTTE_RECORD_CUT;
-        if (body > MOST_BODY)
-            return HOLZMOTTE_RECORD_LONG;
-        if (kind != 1 && kind != 2)
-            return HOLZMOTTE_RECORD_KIND;
-        if (fread(line + line_len, 1, body, file) < body)
-            return HOLZMOTTE_RECORD_CUT;
-        if (kind == 1)
-            return body % 40 == 0 ? HOLZMOTTE_RECORD_KIND : HOLZMOTTE_RAGGED;
-        if ((line_len += body) > HOLZMOTTE_MAX_LINE_BYTES)
-            return HOLZMOTTE_TOO_LONG;
-    }
-    return HOLZMOTTE_DONE;
+    return (unsigned long)(holzmotte_word(r->summary, i) - holzmotte_word(r->at_lock, i));
 }
-
-/* Has the library receive the first n bytes of the line, and add to these counters: 0, or the number of its refusal. */
-static int receive_in(uint64_t its_edition, size_t n, uint8_t *counters)
-{
-    return HOLZMOTTE_NUMBER(
-        holzmotte_receive(its_edition, line, n, vectors, sizeof vectors, summary, sizeof summary, counters, HOLZMOTTE_COUNTERS_BYTES));
-}
-
-static int receive(size_t n, uint8_t *counters) { return receive_in(edition, n, counters); }
-
-static unsigned long word(enum holzmotte_receive_word i) { return (unsigned long)holzmotte_word(summary, i); }
-
-/* Was lock ever had in the first n bytes? Without lock every invalid header makes a slip; lock is lost over 16 of them, with one slip. So
- * a line that ends without lock never had it exactly where the two counts are equal. */
-static int had_lock(size_t n)
-{
-    return receive(n, not_told) == HOLZMOTTE_DONE &&
-           (word(HOLZMOTTE_RECEIVE_LOCKED) == 1 || word(HOLZMOTTE_RECEIVE_HEADER_FAULTS) > word(HOLZMOTTE_RECEIVE_SLIPS));
-}
-
-/* The number of blocks tested when lock first came, or 0. What was had in a beginning of the line was had in every longer one, so the
- * shortest with lock is found by halving: some 20 calls. */
-static unsigned long first_lock(void)
-{
-    size_t without = 0, with = line_len;
-    memset(summary_at_lock, 0, sizeof summary_at_lock);
-    lock_len = 0;
-    if (!had_lock(with))
-        return 0;
-    while (with - without > 1) {
-        size_t middle = without + (with - without) / 2;
-        if (had_lock(middle))
-            with = middle;
-        else
-            without = middle;
-    }
-    receive(lock_len = with, not_told);
-    memcpy(summary_at_lock, summary, sizeof summary);
-    return word(HOLZMOTTE_RECEIVE_TESTED);
-}
-
-/* What a word of the summary has gained since lock first came, or all of it without lock: a longer beginning of a line counts all that a
- * shorter one does. */
-static unsigned long since_lock(enum holzmotte_receive_word i)
-{
-    return word(i) - (unsigned long)holzmotte_word(summary_at_lock, i);
-}
-
-/* The control code faults since lock first came, as the new edition has them. Lock is the same in both: headers alone make it. */
-static unsigned long code_faults_in_new(void)
-{
-    receive_in(HOLZMOTTE_EDITION_NEW, lock_len, not_told);
-    unsigned long before = word(HOLZMOTTE_RECEIVE_CONTROL_CODE_FAULTS);
-    receive_in(HOLZMOTTE_EDITION_NEW, line_len, not_told);
-    return word(HOLZMOTTE_RECEIVE_CONTROL_CODE_FAULTS) - before;
-}
-
-static const uint8_t *vector(unsigned long n) { return vectors + HOLZMOTTE_VECTOR_BYTES * n; }
 
 /* Has vector v this control character? */
 static int has(const uint8_t *v, enum holzmotte_control_character character)
@@ -158,40 +92,63 @@ static enum says says(const uint8_t *v)
     return memcmp(v, IDLES, 10) == 0 ? IDLE : OTHER;
 }
 
-/* Does vector n + 1 go on with the run of vector n? A frame begins at Start and ends with Terminate. */
-static int goes_on(unsigned long n)
-{
-    const uint8_t *v = vector(n), *next = vector(n + 1);
-    return says(v) == says(next) && !(says(v) == FRAME && (ends(v) || starts(next)));
-}
+/* The vectors that say the same, up to the last one that was handed out. None where from is to. */
+static struct {
+    unsigned long from, to, locals, remotes;
+    int starts;
+    uint8_t last[HOLZMOTTE_VECTOR_BYTES];
+} run;
 
-/* Are there fewer than four Local Faults and fewer than four Remote Faults in this run? */
-static int few_faults(unsigned long from, unsigned long to)
+static void print_run(void)
 {
-    int locals = 0, remotes = 0;
-    for (unsigned long n = from; n < to && locals < 4 && remotes < 4; n++) {
-        locals += times(vector(n), LOCAL);
-        remotes += times(vector(n), REMOTE);
-    }
-    return locals < 4 && remotes < 4;
-}
-
-static void print_run(unsigned long from, unsigned long to, unsigned long lock)
-{
-    enum says said = says(vector(from));
-    printf("%8lu %8lu %10.4f us  %s", from, to - from, (double)(to - from) * 0.0064, SAYS[said]);
-    if (said == FRAME && !starts(vector(from)))
+    enum says said = says(run.last);
+    if (run.from == 0)
+        puts("   block   blocks      duration  what the link says");
+    printf("%8lu %8lu %10.4f us  %s", run.from, run.to - run.from, (double)(run.to - run.from) * 0.0064, SAYS[said]);
+    if (said == FRAME && !run.starts)
         printf(", no Start");
-    if (said == FRAME && !ends(vector(to - 1)))
+    if (said == FRAME && !ends(run.last))
         printf(", no Terminate");
-    if (to == word(HOLZMOTTE_RECEIVE_VECTORS) && word(HOLZMOTTE_RECEIVE_ALONE))
+    if (run.to == word(HOLZMOTTE_RECEIVE_VECTORS) && word(HOLZMOTTE_RECEIVE_ALONE))
         printf(", judged without what follows it");
-    int fault = said == BOTH_FAULTS || said == REMOTE_FAULT || said == LOCAL_FAULT, unlocked = lock == 0 || to < lock;
+    int fault = said == BOTH_FAULTS || said == REMOTE_FAULT || said == LOCAL_FAULT, unlocked = lock == 0 || run.to < lock;
     if (said == LOCAL_FAULT)
         printf("%s", unlocked ? ": not locked yet" : ": sent, or lock lost, or the error rate high");
-    if (fault && !unlocked && few_faults(from, to))
+    if (fault && !unlocked && run.locals < 4 && run.remotes < 4)
         printf("; fewer than four, so it may be another ordered set, damaged");
     puts("");
+}
+
+/* Prints the run, if there is one: the next vector begins another. */
+static void end_run(void)
+{
+    if (run.to > run.from)
+        print_run();
+    run.from = run.to;
+    run.locals = run.remotes = 0;
+}
+
+/* Takes the next vector. A frame begins at Start and ends with Terminate, and what comes before lock is a run of its own. */
+static void take(const uint8_t *v)
+{
+    if (starts(v) || says(v) != says(run.last))
+        end_run();
+    if (run.to == run.from)
+        run.starts = starts(v);
+    run.to++;
+    run.locals += (unsigned long)times(v, LOCAL);
+    run.remotes += (unsigned long)times(v, REMOTE);
+    memcpy(run.last, v, sizeof run.last);
+    low_power += says(v) == LOW_POWER_IDLE;
+    if (ends(v) || run.to + 1 == lock)
+        end_run();
+}
+
+/* Takes what a call handed out: the vectors that its summary counts more than were taken. */
+static void take_handed_out(void)
+{
+    for (const uint8_t *v = vectors; run.to < word(HOLZMOTTE_RECEIVE_VECTORS); v += HOLZMOTTE_VECTOR_BYTES)
+        take(v);
 }
 
 static void print_tested(unsigned long tested, unsigned long slips) { printf("%lu blocks tested, %lu slips; ", tested, slips); }
@@ -206,21 +163,16 @@ static void print_answers(unsigned long begun, unsigned long replaced)
     printf("%lu frames begun, %lu vectors replaced by errors", begun, replaced);
 }
 
-static void print_low_power(void)
-{
-    unsigned long low = 0;
-    for (unsigned long n = 0; n < word(HOLZMOTTE_RECEIVE_VECTORS); n++)
-        low += says(vector(n)) == LOW_POWER_IDLE;
-    printf(", %lu vectors of low power idle", low);
-}
-
 /* A payload bit that is damaged on the way shows at three places of the descrambled line: a little damage may hit codes alone, much of
  * it hits headers and types too. A far sender that sends wrong codes, or error blocks, leaves headers and types good, and so does one
  * that sends low power idle, which the old edition does not know. The totals show no more than this, and without lock not even this. */
-static void print_bad_blocks(unsigned long lock, unsigned long code_in_new)
+static void print_bad_blocks(void)
 {
-    unsigned long header = since_lock(HOLZMOTTE_RECEIVE_HEADER_FAULTS), type = since_lock(HOLZMOTTE_RECEIVE_TYPE_FAULTS);
-    unsigned long code = since_lock(HOLZMOTTE_RECEIVE_CONTROL_CODE_FAULTS), set = since_lock(HOLZMOTTE_RECEIVE_SET_CODE_FAULTS);
+    unsigned long header = since_lock(&watched, HOLZMOTTE_RECEIVE_HEADER_FAULTS);
+    unsigned long type = since_lock(&watched, HOLZMOTTE_RECEIVE_TYPE_FAULTS);
+    unsigned long code = since_lock(&watched, HOLZMOTTE_RECEIVE_CONTROL_CODE_FAULTS);
+    unsigned long set = since_lock(&watched, HOLZMOTTE_RECEIVE_SET_CODE_FAULTS);
+    unsigned long code_in_new = since_lock(&in_new, HOLZMOTTE_RECEIVE_CONTROL_CODE_FAULTS);
     if (lock == 0)
         printf("bad blocks: ");
     else
@@ -233,7 +185,7 @@ static void print_bad_blocks(unsigned long lock, unsigned long code_in_new)
     puts("");
     if (lock == 0)
         puts("  without lock these numbers say nothing about the link");
-    else if (since_lock(HOLZMOTTE_RECEIVE_SLIPS) > 0)
+    else if (since_lock(&watched, HOLZMOTTE_RECEIVE_SLIPS) > 0)
         puts("  lock was lost over invalid headers (blocks cut at a wrong place count too): this points to the fibre or a transceiver");
     else if (header + type > 0)
         puts("  headers or types are bad: this points to the fibre or a transceiver");
@@ -243,9 +195,8 @@ static void print_bad_blocks(unsigned long lock, unsigned long code_in_new)
         printf("  with --energy-saving there are %lu control code faults: the link may have Energy Efficient Ethernet on\n", code_in_new);
 }
 
-static void print_link(unsigned long lock, unsigned long code_in_new)
+static void print_link(void)
 {
-    unsigned long count = word(HOLZMOTTE_RECEIVE_VECTORS), from = 0;
     print_tested(word(HOLZMOTTE_RECEIVE_TESTED), word(HOLZMOTTE_RECEIVE_SLIPS));
     if (lock == 0)
         printf("never locked");
@@ -253,18 +204,12 @@ static void print_link(unsigned long lock, unsigned long code_in_new)
         printf("first locked with block %lu", lock - 1);
     printf("; at the end %slocked%s\n", word(HOLZMOTTE_RECEIVE_LOCKED) ? "" : "not ",
            word(HOLZMOTTE_RECEIVE_HIGH) ? ", with a high error rate" : "");
-    print_bad_blocks(lock, code_in_new);
-    printf("in the whole capture: ");
+    print_bad_blocks();
+    printf("in %s: ", whole);
     print_answers(word(HOLZMOTTE_RECEIVE_BEGUN), word(HOLZMOTTE_RECEIVE_REPLACED));
     if (edition == HOLZMOTTE_EDITION_NEW)
-        print_low_power();
+        printf(", %lu vectors of low power idle", low_power);
     puts("");
-    puts("   block   blocks      duration  what the link says");
-    for (unsigned long n = 0; n < count; n++)
-        if (n + 1 == count || n + 2 == lock || !goes_on(n)) {
-            print_run(from, n + 1, lock);
-            from = n + 1;
-        }
 }
 
 static unsigned long count(enum holzmotte_counter_number i) { return holzmotte_counter(total, i); }
@@ -286,39 +231,134 @@ static void print_refusal(int number, const char *and_then)
     printf("refused, number %d, the record at byte %zu: %s%s\n", number, place, holzmotte_refusal_text(number), and_then);
 }
 
-/* Has what was gathered received, and tells it: an exit status. */
-static int tell(void)
+static void end_unless_written(void)
 {
-    unsigned long lock = first_lock(), code_in_new = code_faults_in_new();
-    int number = receive(line_len, total);
-    if (number != HOLZMOTTE_DONE) {
-        print_refusal(number, "");
-        return 1;
+    if (fflush(stdout) == 0 && !ferror(stdout))
+        return;
+    fputs("linkwatch: the output could not be written\n", stderr);
+    exit(3);
+}
+
+static void begin(struct receiver *r, uint64_t its_edition)
+{
+    memset(r, 0, sizeof *r);
+    holzmotte_begin(its_edition, r->state, sizeof r->state);
+}
+
+static void begin_part(void)
+{
+    begin(&watched, edition);
+    begin(&in_new, HOLZMOTTE_EDITION_NEW);
+    memset(&run, 0, sizeof run);
+    lock = low_power = 0;
+}
+
+/* Closes the receiver, and tells the last run and the whole. */
+static void end_part(void)
+{
+    holzmotte_close(watched.state, sizeof watched.state, vectors, sizeof vectors, watched.summary, sizeof watched.summary,
+                    total, sizeof total);
+    take_handed_out();
+    end_run();
+    print_link();
+}
+
+static int burst(struct receiver *r, const uint8_t *bytes, size_t n, uint8_t *counters)
+{
+    return HOLZMOTTE_NUMBER(holzmotte_burst(r->state, sizeof r->state, bytes, n, vectors, sizeof vectors, r->summary, sizeof r->summary,
+                                            counters, HOLZMOTTE_COUNTERS_BYTES));
+}
+
+/* Has a burst received: 0, or the number of its refusal, which changes nothing. */
+static int receive(const uint8_t *bytes, size_t n)
+{
+    int number = burst(&watched, bytes, n, total), locks = lock == 0 && word(HOLZMOTTE_RECEIVE_LOCKED);
+    if (number != HOLZMOTTE_DONE)
+        return number;
+    if (locks)
+        lock = word(HOLZMOTTE_RECEIVE_TESTED);
+    take_handed_out();
+    burst(&in_new, bytes, n, not_told);
+    if (locks) {
+        memcpy(watched.at_lock, watched.summary, sizeof watched.summary);
+        memcpy(in_new.at_lock, in_new.summary, sizeof in_new.summary);
     }
-    print_link(lock, code_in_new);
-    told++;
-    return 0;
+    return HOLZMOTTE_DONE;
+}
+
+/* Tells what one receiver took, and lets a fresh one go on. */
+static void next_part(void)
+{
+    whole = "this part";
+    end_part();
+    printf("a receiver takes no more than 825,000 bytes: a fresh one goes on in the record at byte %zu, and has to find lock\n", place);
+    begin_part();
+}
+
+/* Has the bytes of a record received: before lock one at a time, for a byte fills no more than one block, and so lock is seen with the
+ * block that gives it. What a receiver refuses as too long goes to a fresh one. 0, or the number of another refusal. */
+static int feed(const uint8_t *bytes, size_t n)
+{
+    int number = HOLZMOTTE_DONE;
+    for (size_t step; n > 0 && number == HOLZMOTTE_DONE; bytes += step, n -= step) {
+        step = lock == 0 ? 1 : n;
+        number = receive(bytes, step);
+        if (number == HOLZMOTTE_TOO_LONG) {
+            next_part();
+            number = HOLZMOTTE_DONE, step = 0;
+        }
+    }
+    return number;
+}
+
+/* Has a capture received, record by record, as they come: 0, or the number of the first refusal. A record is body length (2 bytes), kind
+ * (2 bytes; 1 vectors, 2 line bytes) and body. */
+static int follow(FILE *file)
+{
+    static uint8_t body[MOST_BODY];
+    uint8_t head[4] = {0};
+    size_t got, len;
+    int number = HOLZMOTTE_DONE;
+    for (place = heard = 0; number == HOLZMOTTE_DONE && (got = fread(head, 1, 4, file)) > 0; place += 4 + len, heard += len) {
+        size_t kind = head[2] + 256u * head[3];
+        len = head[0] + 256u * head[1];
+        if (got < 4)
+            return HOLZMOTTE_RECORD_CUT;
+        if (len > MOST_BODY)
+            return HOLZMOTTE_RECORD_LONG;
+        if (kind != 1 && kind != 2)
+            return HOLZMOTTE_RECORD_KIND;
+        if (fread(body, 1, len, file) < len)
+            return HOLZMOTTE_RECORD_CUT;
+        if (kind == 1)
+            return len % 40 == 0 ? HOLZMOTTE_RECORD_KIND : HOLZMOTTE_RAGGED;
+        number = feed(body, len);
+        end_unless_written();
+    }
+    return number;
 }
 
 /* Tells one capture: an exit status. */
 static int watch(const char *name)
 {
+    whole = "the whole capture";
+    heard = 0;
+    begin_part();
     FILE *file = fopen(name, "rb");
-    int number = file ? gather(file) : HOLZMOTTE_DONE, unread = !file || ferror(file);
-    if (unread)
-        fprintf(stderr, "linkwatch: %s: %s\n", name, strerror(errno));
+    int number = file ? follow(file) : HOLZMOTTE_DONE, unread = !file || ferror(file), reason = errno;
     if (file)
         fclose(file);
-    if (unread)
-        return 2;
-    if (number == HOLZMOTTE_DONE)
-        return tell();
-    if (number == HOLZMOTTE_RECORD_CUT && line_len > 0) {
-        print_refusal(number, "; what stands before it is told");
-        tell();
-    } else {
-        print_refusal(number, "");
+    if (heard > 0 || (number == HOLZMOTTE_DONE && !unread)) {
+        end_part();
+        told++;
     }
+    if (unread) {
+        fprintf(stderr, "linkwatch: %s: %s\n", name, strerror(reason));
+        return 2;
+    }
+    if (number == HOLZMOTTE_DONE)
+        return 0;
+    print_refusal(number, heard > 0 ? "; what stands before it is told" : "");
     return 1;
 }
 
@@ -352,9 +392,6 @@ int main(int argc, char **argv)
     }
     if (captures > 1)
         print_total(told);
-    if (fflush(stdout) != 0 || ferror(stdout)) {
-        fputs("linkwatch: the output could not be written\n", stderr);
-        return 3;
-    }
+    end_unless_written();
     return worst;
 }

@@ -1,7 +1,8 @@
 /* Holzmotte: the physical coding sublayer of a 10GBASE-R link (IEEE 802.3 Clause 49), from XGMII vectors to line bits and back.
  *
- * Two functions, proved to do what the project's definitions say for every input. They allocate nothing, keep nothing between calls
- * and touch no memory but what is lent to them, their stack and constants of their own, so they may be called from any thread.
+ * Five functions, proved to do what the project's definitions say for every input: to send, to receive, and to begin, go on and close where
+ * a line is received in bursts. They allocate nothing, keep nothing between calls and touch no memory but what is lent to them, their
+ * stack and constants of their own, so they may be called from any thread.
  *
  * Compiling. This file is C11 and C++11. After `make install`: cc -std=c11 app.c -lholzmotte
  * Without it, in the project's folder after `make native`: cc -std=c11 -Iinclude app.c target/native/libholzmotte.a
@@ -10,24 +11,24 @@
  *   - The caller owns it, before, during and after the call; the library keeps no pointer.
  *   - The pointer is not NULL, even where the length is 0: pass the address of anything then.
  *   - All of it is readable memory, and writable where the pointer is not to const; the length is at most PTRDIFF_MAX.
- *   - A slice that is written (line and summary in sending; vectors, summary and counters in receiving) overlaps no other slice of
- *     the call, nor of a call that runs at the same time.
+ *   - A slice that is written (line and summary in sending; vectors, summary and counters in receiving; state in bursts) overlaps no
+ *     other slice of the call, nor of a call that runs at the same time.
  * Nothing checks these four, and nothing else is asked: no pointer has to be aligned, and every other fault is refused by a number.
  *
  * Bytes. A word is five bytes: a control byte (bit i set when lane i carries a control character; bits 4 to 7 zero), then lanes 0
  * to 3. A vector is two words, ten bytes. Line bit n is bit n mod 8, least significant first, of line byte n / 8. A block is 66
  * line bits, so four vectors (40 bytes) give 33 line bytes.
  *
- * Edition. Each function takes one first: HOLZMOTTE_EDITION_NEW for a link on which Energy Efficient Ethernet (IEEE 802.3az) is on,
- * HOLZMOTTE_EDITION_OLD for every other. What it changes stands at the two constants.
+ * Edition. Sending, receiving and the beginning of bursts take one first: HOLZMOTTE_EDITION_NEW for a link on which Energy Efficient
+ * Ethernet (IEEE 802.3az) is on, HOLZMOTTE_EDITION_OLD for every other. What it changes stands at the two constants.
  *
  * Result. 0 on success, else refusal number + 256 x place: HOLZMOTTE_NUMBER and HOLZMOTTE_PLACE take it apart. Of several refusals
  * that apply the first is given, in the order that stands at each function. The place is 0 but for refusal 5, where it is the
  * offset in `vectors` of the first control byte above 15.
  *
  * What is written. A success writes exactly the bytes that stand at each function, from the start of the lent slice, and leaves the
- * rest of the slice as it was. A refusal leaves `line`, or `vectors` and `counters`, as they were and writes the summary's bytes as
- * zeros; where the summary slice is too short for them it stays as it was, whatever the refusal.
+ * rest of the slice as it was. A refusal leaves `line`, or `vectors`, `counters` and `state`, as they were and writes the summary's
+ * bytes as zeros; where the summary slice is too short for them it stays as it was, whatever the refusal.
  */
 #ifndef HOLZMOTTE_H
 #define HOLZMOTTE_H
@@ -40,15 +41,16 @@ extern "C" {
 #endif
 
 /* The version of this file and of the library that it belongs to. While the major number is 0, a new minor number may append words to a
- * summary, and never moves one, and may add parameters; a new patch number does neither. A program is compiled with the header of its
- * library: nothing notices a call with too few parameters, such as every call that was compiled with a header before 0.6.0. */
+ * summary or to a state, and never moves one, and may add functions and parameters; a new patch number does none of these. A program is
+ * compiled with the header of its library: nothing notices a call with too few parameters, such as every call that was compiled with a
+ * header before 0.6.0. */
 #define HOLZMOTTE_VERSION_MAJOR 0
-#define HOLZMOTTE_VERSION_MINOR 6
+#define HOLZMOTTE_VERSION_MINOR 7
 #define HOLZMOTTE_VERSION_PATCH 0
-#define HOLZMOTTE_VERSION "0.6.0"
+#define HOLZMOTTE_VERSION "0.7.0"
 
-/* So much stack is enough for a call. This is tested, not proved: measured on x86-64, sending takes up to 5.0 KB and receiving up to
- * 2.9 KB; an earlier version took 7.5 KB and 7.2 KB on 64-bit Arm. */
+/* So much stack is enough for a call. This is tested, not proved: measured on x86-64, sending takes up to 5.0 KB, receiving 2.9 KB, a burst
+ * XX KB and the closing call 1.2 KB; an earlier version took 7.5 KB to send and 7.2 KB to receive on 64-bit Arm. */
 #define HOLZMOTTE_STACK_BYTES 16384
 
 /* Sizes, in bytes. */
@@ -60,10 +62,13 @@ extern "C" {
 #define HOLZMOTTE_SEND_SUMMARY_BYTES 24
 #define HOLZMOTTE_RECEIVE_SUMMARY_BYTES 96
 #define HOLZMOTTE_COUNTERS_BYTES 32
+#define HOLZMOTTE_STATE_BYTES 232
 
-/* The room that sending wants for its line, and receiving for its vectors (also where slips leave fewer vectors than fit). */
+/* The room that sending wants for its line, and receiving for its vectors (also where slips leave fewer vectors than fit). For a burst the
+ * third is enough whatever its state is, and for the closing call 10 bytes, which is HOLZMOTTE_BURST_ROOM(0). */
 #define HOLZMOTTE_LINE_ROOM(vector_bytes) ((size_t)(vector_bytes) / 40 * 33)
 #define HOLZMOTTE_VECTOR_ROOM(line_bytes) ((size_t)(line_bytes) * 8 / 66 * 10)
+#define HOLZMOTTE_BURST_ROOM(line_bytes) (((size_t)(line_bytes) * 8 + 65) / 66 * 10 + 10)
 
 /* A start state is below this: 58 bits. */
 #define HOLZMOTTE_START_STATES ((uint64_t)1 << 58)
@@ -72,10 +77,10 @@ extern "C" {
 #define HOLZMOTTE_NUMBER(result) ((int)((result) % 256))
 #define HOLZMOTTE_PLACE(result) ((uint64_t)((result) / 256))
 
-/* The refusal numbers. The functions here give 1 to 5 and 13; 6, 7 and 8 are for a program that reads capture records. */
+/* The refusal numbers. The functions here give 1 to 5, 9, 10 and 13; 6, 7 and 8 are for a program that reads capture records. */
 enum holzmotte_refusal {
     HOLZMOTTE_DONE = 0,
-    HOLZMOTTE_TOO_LONG = 1,     /* more than 1,000,000 vector bytes, or 825,000 line bytes */
+    HOLZMOTTE_TOO_LONG = 1,     /* more than 1,000,000 vector bytes, or 825,000 line bytes, those of earlier bursts included */
     HOLZMOTTE_RAGGED = 2,       /* vector bytes not a multiple of 40 */
     HOLZMOTTE_START_STATE = 3,  /* start state at or above 2^58 */
     HOLZMOTTE_NO_ROOM = 4,      /* a slice that is written is too short */
@@ -83,6 +88,8 @@ enum holzmotte_refusal {
     HOLZMOTTE_RECORD_CUT = 6,   /* under four head bytes, or a body past the end */
     HOLZMOTTE_RECORD_LONG = 7,  /* a body of more than 4,092 bytes */
     HOLZMOTTE_RECORD_KIND = 8,  /* a kind that is not 1 or 2, or not the one that the program takes */
+    HOLZMOTTE_CLOSED = 9,       /* a burst or a closing call after the closing one */
+    HOLZMOTTE_BAD_STATE = 10,   /* a state that no line leads to: one of the limits at enum holzmotte_state_word is passed */
     HOLZMOTTE_NO_EDITION = 13   /* an edition that is not 0 or 1 */
 };
 
@@ -99,6 +106,8 @@ static inline const char *holzmotte_refusal_text(int number)
     case HOLZMOTTE_RECORD_CUT: return "the file ends inside a record";
     case HOLZMOTTE_RECORD_LONG: return "a record has a body of more than 4,092 bytes";
     case HOLZMOTTE_RECORD_KIND: return "a record is of another kind than is read here";
+    case HOLZMOTTE_CLOSED: return "the closing call has been made";
+    case HOLZMOTTE_BAD_STATE: return "the state is damaged: no line leads to it";
     case HOLZMOTTE_NO_EDITION: return "there is no such edition: 0 is the old one, 1 the new one";
     default: return "unknown";
     }
@@ -163,7 +172,7 @@ static inline uint8_t holzmotte_octet(const uint8_t *vector, int i) { return vec
  *   - It leads to state E of the receive diagram (it is bad, or out of turn): the error vector.
  *   - Else: the block, decoded.
  * By the vector alone the first of these cannot be told from a Local Fault that the far end sent. The summary says whether the receiver is
- * locked and the error rate high at the end of the line (words 2 and 3); for an earlier place receive the line up to there.
+ * locked and the error rate high at the end of the line (words 2 and 3); for an earlier place receive the line up to there, as in bursts.
  *
  * What comes back. A list of which sending replaced no vector (word 2 of its summary is 0) and whose first 64 vectors are of kind C comes
  * back unchanged from vector 63 on, in either edition. This is proved.
@@ -210,13 +219,16 @@ enum holzmotte_send_word {
  * Words 10 and 11 count vectors among those written, the last one too. Word 10 counts those of kind S: they have the Start (fb) of a
  * frame, in lane 0 of their first or second word, and blocks of type 33, 66 and 78 carry them. A Start block that is answered as the
  * error vector, or as Local Fault (not locked, or the error rate high), is not counted. Word 11 counts the error vectors,
- * 0f fe fe fe fe 0f fe fe fe fe, whatever they stand for: bad blocks, good ones out of turn, a Terminate that is not accepted. */
+ * 0f fe fe fe fe 0f fe fe fe fe, whatever they stand for: bad blocks, good ones out of turn, a Terminate that is not accepted.
+ *
+ * The summary of a burst has the same words, of the line so far, that of the closing call those of the whole line. A burst hands out no
+ * vector for the last tested block, so words 4, 10 and 11 do not count it yet, and word 9 is 0. */
 enum holzmotte_receive_word {
     HOLZMOTTE_RECEIVE_TESTED = 0,              /* blocks whose header was tested */
     HOLZMOTTE_RECEIVE_SLIPS = 1,               /* slips: one line bit skipped for each, in search of lock */
     HOLZMOTTE_RECEIVE_LOCKED = 2,              /* 1 where the receiver has block lock at the end, else 0 */
     HOLZMOTTE_RECEIVE_HIGH = 3,                /* 1 where the error rate is high at the end, else 0 */
-    HOLZMOTTE_RECEIVE_VECTORS = 4,             /* vectors written: one for each tested block */
+    HOLZMOTTE_RECEIVE_VECTORS = 4,             /* vectors written: one for each tested block; in bursts, by all calls so far */
     HOLZMOTTE_RECEIVE_HEADER_FAULTS = 5,       /* the two header bits are equal */
     HOLZMOTTE_RECEIVE_TYPE_FAULTS = 6,         /* a control block whose type is none of the fifteen */
     HOLZMOTTE_RECEIVE_CONTROL_CODE_FAULTS = 7, /* a 7-bit code of no control character; in type 1e also the error character's, 1e */
@@ -228,8 +240,8 @@ enum holzmotte_receive_word {
 
 /* The counters: a running total that the caller keeps, eight 32-bit numbers, least significant byte first, number i at byte 4 * i. It
  * begins as 32 zero bytes. Each receiving call adds to each number what the call itself counted, which is the word of the same name in
- * its summary; a number that would pass HOLZMOTTE_COUNTER_FULL stays there. A refused call changes none. A caller who wants no total
- * lends 32 bytes and ignores them. */
+ * its summary, or, in bursts, what that word has gained since the last call that was not refused; a number that would pass
+ * HOLZMOTTE_COUNTER_FULL stays there. A refused call changes none. A caller who wants no total lends 32 bytes and ignores them. */
 enum holzmotte_counter_number {
     HOLZMOTTE_COUNT_TESTED = 0,
     HOLZMOTTE_COUNT_SLIPS = 1,
@@ -253,7 +265,7 @@ static inline uint64_t holzmotte_number_in(const uint8_t *bytes, int count)
     return number;
 }
 
-/* Word i of a summary. */
+/* Word i of a summary, or of a state. */
 static inline uint64_t holzmotte_word(const uint8_t *summary, int i) { return holzmotte_number_in(summary + 8 * i, 8); }
 
 /* Number i of the counters. */
@@ -291,6 +303,124 @@ uint64_t holzmotte_send(uint64_t edition, const uint8_t *vectors, size_t vectors
  * Refusals, in this order: 13, 1, 4 (vectors, summary or counters too short). */
 uint64_t holzmotte_receive(uint64_t edition, const uint8_t *line, size_t line_len, uint8_t *vectors, size_t vectors_len,
                            uint8_t *summary, size_t summary_len, uint8_t *counters, size_t counters_len);
+
+/* Bursts: receiving a line whose bytes come little by little. holzmotte_begin makes a fresh state, each holzmotte_burst takes the bytes
+ * that came, and holzmotte_close says that no more will come. Here `came` gives how many bytes it has put, and 0 at the end:
+ *
+ *     static uint64_t receive_as_it_comes(void)
+ *     {
+ *         uint8_t state[HOLZMOTTE_STATE_BYTES], summary[HOLZMOTTE_RECEIVE_SUMMARY_BYTES], counters[HOLZMOTTE_COUNTERS_BYTES] = {0};
+ *         uint8_t bytes[512], vectors[HOLZMOTTE_BURST_ROOM(sizeof bytes)];
+ *         uint64_t result = holzmotte_begin(HOLZMOTTE_EDITION_OLD, state, sizeof state), before = 0;
+ *         for (size_t n = 1; n > 0 && result == HOLZMOTTE_DONE;) {
+ *             n = came(bytes, sizeof bytes);
+ *             result = n > 0 ? holzmotte_burst(state, sizeof state, bytes, n, vectors, sizeof vectors, summary, sizeof summary,
+ *                                              counters, sizeof counters)
+ *                            : holzmotte_close(state, sizeof state, vectors, sizeof vectors, summary, sizeof summary,
+ *                                              counters, sizeof counters);
+ *             if (result == HOLZMOTTE_DONE) {
+ *                 uint64_t handed = holzmotte_word(summary, HOLZMOTTE_RECEIVE_VECTORS);
+ *                 show(vectors, handed - before);
+ *                 before = handed;
+ *             }
+ *         }
+ *         return result;
+ *     }
+ *
+ * What is the same. However the bytes are cut, into bursts of no bytes too: the vectors of all calls joined, the closing call's summary,
+ * and counters that were lent to these calls and to no other, are those of one holzmotte_receive over the whole in that edition. Calls
+ * that were refused count for nothing in this. This is proved.
+ *
+ * What a call hands out. A burst tests each block that its bytes make whole. It hands out the vectors of all blocks tested so far but the
+ * last, as far as no call before did: the last one is held, for what follows may decide how it is answered. The closing call hands out
+ * the vector that is held, if there is one. So a call hands out as many vectors as word 4 of its summary has gained since the last call
+ * that was not refused, or since 0 in the first: ten bytes each, from the start of `vectors`.
+ *
+ * A burst of no bytes is no end of the line, and hands out nothing. Only the closing call is an end.
+ *
+ * Room. A burst wants 10 x (floor((bits carried + 8 x line_len) / 66) + 1) bytes for its vectors, even where it hands out fewer; the bits
+ * carried are word 9 of the state, at most 65. The closing call wants 10.
+ *
+ * Refused calls. A refused burst leaves the state as it was, so it may be sent again, with more room or in smaller parts, as if it had not
+ * been made. The limit of 825,000 bytes is one of the sum: the burst that would pass it is refused, one that just reaches it is not.
+ * After the closing call every burst and closing call is refused with 9, until holzmotte_begin makes the state fresh.
+ *
+ * The state is plain bytes, the same on every machine. It may be moved, copied, kept in a file and given again later, by another program
+ * too; a copy is a receiver of its own. A state that holzmotte_begin wrote, and nothing but these functions since, is never refused with
+ * 10 or 13. Any other is judged by the limits below, and one that keeps to them goes on as its words say. */
+
+/* The words of a state: 64-bit numbers, least significant byte first, word i at byte 8 * i. A caller need not know them.
+ *
+ * Limits. A state is bad, refusal 10, exactly where a word does not keep to what is said of it here with `at most`, `below` or `0 while not
+ * locked`, that is, while word 4 is 0. Of the other words any number is taken.
+ *
+ * Any number. A flag is 0 for no, any other number for yes. Some bits count for nothing: in words 10 and 11 those that are no bits carried,
+ * in words 17 and 18 those from bit 40 on, and all of words 15 to 18 where no block is held. A kind that the edition does not have is E.
+ * Where a bit is to be skipped, the bits carried go with it. A burst writes flags as 0 or 1, bits that count for nothing as 0, and
+ * such a kind as 4. The closing call writes flags as 0 or 1, word 0 as 1 and words 14 to 18 as 0, counts the vector that it hands out, and
+ * leaves the other words as they were. */
+enum holzmotte_state_word {
+    HOLZMOTTE_STATE_CLOSED = 0,              /* flag: the closing call was made */
+    HOLZMOTTE_STATE_LINE_BYTES = 1,          /* line bytes so far: at most 825,000 */
+    HOLZMOTTE_STATE_LOCK_TESTED = 2,         /* headers that block lock has counted, of 64: at most 63 */
+    HOLZMOTTE_STATE_LOCK_INVALID = 3,        /* the invalid ones of them: at most 15, at most word 2, 0 while not locked */
+    HOLZMOTTE_STATE_LOCKED = 4,              /* flag: the receiver has block lock */
+    HOLZMOTTE_STATE_WINDOW_BLOCKS = 5,       /* blocks that the error rate's window has counted, of 19,531: at most 19,530 */
+    HOLZMOTTE_STATE_WINDOW_INVALID = 6,      /* the invalid headers of them: at most 19,530, at most word 5, 0 while not locked */
+    HOLZMOTTE_STATE_HIGH = 7,                /* flag: the error rate is high: 0 while not locked */
+    HOLZMOTTE_STATE_SCRAMBLER = 8,           /* the last 58 payload bits of tested blocks, the oldest lowest, at first 0: below 2^58 */
+    HOLZMOTTE_STATE_CARRIED = 9,             /* bits carried: those of a block that is not whole yet: at most 65 */
+    HOLZMOTTE_STATE_CARRIED_HEADER = 10,     /* the first two of them, the first lowest */
+    HOLZMOTTE_STATE_CARRIED_PAYLOAD = 11,    /* the others, the first lowest */
+    HOLZMOTTE_STATE_SKIP = 12,               /* flag: the next line bit is skipped, for a slip */
+    HOLZMOTTE_STATE_DIAGRAM = 13,            /* the receive diagram, as the next vector finds it: at most 4, in the new edition 5 */
+    HOLZMOTTE_STATE_HELD = 14,               /* flag: a block is held */
+    HOLZMOTTE_STATE_HELD_ON = 15,            /* flag: it left the receiver locked and the error rate not high */
+    HOLZMOTTE_STATE_HELD_KIND = 16,          /* its kind: D, C, S, T, E and LI are 0 to 5 */
+    HOLZMOTTE_STATE_HELD_FIRST = 17,         /* the first word of its vector, decoded: byte i is bits 8 * i to 8 * i + 7 */
+    HOLZMOTTE_STATE_HELD_SECOND = 18,        /* the second word, so too */
+    HOLZMOTTE_STATE_TESTED = 19,             /* words 19 to 27 are those of the same name in the summary: each at most 100,000 */
+    HOLZMOTTE_STATE_SLIPS = 20,
+    HOLZMOTTE_STATE_VECTORS = 21,
+    HOLZMOTTE_STATE_HEADER_FAULTS = 22,
+    HOLZMOTTE_STATE_TYPE_FAULTS = 23,
+    HOLZMOTTE_STATE_CONTROL_CODE_FAULTS = 24,
+    HOLZMOTTE_STATE_SET_CODE_FAULTS = 25,
+    HOLZMOTTE_STATE_BEGUN = 26,
+    HOLZMOTTE_STATE_REPLACED = 27,
+    HOLZMOTTE_STATE_EDITION = 28             /* as it was chosen with holzmotte_begin; refused with 13 where it is not 0 or 1 */
+};
+
+/* Makes a fresh state for bursts. What stood in the slice does not matter.
+ *
+ *   edition  an enum holzmotte_edition, for all bursts of the line
+ *   state    written: HOLZMOTTE_STATE_BYTES bytes
+ *
+ * Refusals, in this order: 13, 4 (state too short). */
+uint64_t holzmotte_begin(uint64_t edition, uint8_t *state, size_t state_len);
+
+/* Goes on with a line, from where the state left it.
+ *
+ *   state     read and written: HOLZMOTTE_STATE_BYTES bytes
+ *   line      read: the bytes that came; with those of earlier bursts at most HOLZMOTTE_MAX_LINE_BYTES
+ *   vectors   room as said above, HOLZMOTTE_BURST_ROOM(line_len) is enough; written: ten bytes for each vector that is handed out
+ *   summary   written: HOLZMOTTE_RECEIVE_SUMMARY_BYTES bytes, of the line so far
+ *   counters  read and written: HOLZMOTTE_COUNTERS_BYTES bytes; the total before the call, and after it
+ *
+ * Refusals, in this order: 4 (state too short), 13, 9, 10, 1, 4 (vectors, summary or counters too short). */
+uint64_t holzmotte_burst(uint8_t *state, size_t state_len, const uint8_t *line, size_t line_len, uint8_t *vectors, size_t vectors_len,
+                         uint8_t *summary, size_t summary_len, uint8_t *counters, size_t counters_len);
+
+/* Ends a line: hands out the vector that is held, judged as where a line stops (word 9 of the summary), and closes the state.
+ *
+ *   state     read and written: HOLZMOTTE_STATE_BYTES bytes
+ *   vectors   at least 10 bytes; written: ten where a block was held, else none
+ *   summary   written: HOLZMOTTE_RECEIVE_SUMMARY_BYTES bytes, of the whole line
+ *   counters  read and written: HOLZMOTTE_COUNTERS_BYTES bytes; the total before the call, and after it
+ *
+ * Refusals, in this order: 4 (state too short), 13, 9, 10, 4 (vectors, summary or counters too short). */
+uint64_t holzmotte_close(uint8_t *state, size_t state_len, uint8_t *vectors, size_t vectors_len,
+                         uint8_t *summary, size_t summary_len, uint8_t *counters, size_t counters_len);
 
 #ifdef __cplusplus
 }
