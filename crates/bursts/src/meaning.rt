@@ -6,6 +6,8 @@ use carrying::Carried;
 use decoding::Vector;
 use decoding::good_class;
 use decoding::kind_in;
+use diagrams::Lock;
+use diagrams::Rate;
 use receiving::Held;
 use receiving::Link;
 use receiving::Receiver;
@@ -120,7 +122,7 @@ fn block_of(edition: u64, k: Kept) -> Held
     }
 }
 
-// The receiver that a state means.
+// The receiver that a state means. Lock and rate field by field: what stands between the fields of a state goes no further.
 pub fn receiver_of(s: State) -> Receiver
     requires { ⌜ badState s ≡ false ⌝ }
     ensures { λ r. ⌜ Means s r ⌝ }
@@ -137,8 +139,16 @@ pub fn receiver_of(s: State) -> Receiver
         carried: carried,
         link: Link {
             edition: tables::edition_of(edition),
-            lock: lock,
-            rate: rate,
+            lock: Lock {
+                tested: lock.tested,
+                invalid: lock.invalid,
+                locked: lock.locked,
+            },
+            rate: Rate {
+                blocks: rate.blocks,
+                invalid: rate.invalid,
+                high: rate.high,
+            },
             history: s.history,
         },
         state: diagram_by(s.diagram),
