@@ -1,5 +1,5 @@
 -- The theorem of bursts through C: a call through C is a call of `bursts` with the state that the slice holds. Assumes nothing.
-use Prim.Native.Nat.{ℕ, _+_, _-_, _*_, _/_, _≤_, _<_}
+use Prim.Native.Nat.{ℕ, _+_, _-_, _*_, _/_, _≤_}
 use mathlib.Core.Path.{_≡_, refl, sym, ap, ap₂, _∙_, subst}
 use mathlib.Core.Bool.{Bool, false, cond}
 use mathlib.Core.List.{List, [], _∷_, _++_}
@@ -8,22 +8,22 @@ use lib.Dec.{eqb}
 use lib.ListN.{length, take, drop}
 use lib.Seq.{take-at}
 use borrow.Author.Tests.{ne-eqb, le-ltb}
-use Rattle.refusals.specs.First.{Verdict, accepted, refused, first, byVerdict}
-use Rattle.block.specs.Block.{editionOf, editionCheck}
+use Rattle.refusals.specs.First.{Verdict, accepted, refused, first}
+use Rattle.block.specs.Block.{editionOf}
 use Rattle.receiving.specs.Receive.{judgedAlone}
 use Rattle.receiving.specs.Parts.{bytesOf}
 use Rattle.receiving.specs.Answer.{ReceiveAnswer, received, summaryOf, answerOf, Receives}
 use Rattle.receiving.specs.declared.Summary.{Summary}
 use Rattle.receiving.specs.declared.Received.the-variants.{Done}
 use Rattle.counters.specs.Counters.{updated}
-use Rattle.slices.specs.Slices.{resultOf, wordBytes, summaryWith, countersIn, countersWith, receiveLength, shortSlice, receiveWords}
+use Rattle.slices.specs.Slices.{resultOf, wordBytes, summaryWith, countersIn, countersWith, receiveLength, receiveWords}
 use Rattle.slices.proofs.Laws.{summary-long, length-words}
 use Rattle.slices.proofs.Totals.{twice-in-bytes}
 use Rattle.bursts.specs.declared.State.{State}
 use Rattle.bursts.specs.declared.Added.{Added}
 use Rattle.bursts.specs.declared.Reply.{Reply}
 use Rattle.bursts.specs.Judging.{burstVerdict}
-use Rattle.bursts.specs.Burst.{stateFresh, begun, beginAnswer, burstBytes, burstAdded, burstState, closeJudged, closeAdded, closeState, summaryIn, Called, atStart, burstCall, closeCall, Replies}
+use Rattle.bursts.specs.Burst.{stateFresh, begun, beginAnswer, burstBytes, burstAdded, burstState, closeJudged, closeAdded, closeState, summaryIn, atStart, burstCall, closeCall, Replies}
 use Rattle.bursts.specs.Joined.{plusAdded, noneAdded, addedIn, callOf}
 use Rattle.bursts.specs.Joined as Plain
 use Rattle.bursts.proofs.Sums.{added-none, added-first}
@@ -32,7 +32,7 @@ use Rattle.stored.specs.Stored.{stateIn, storedIn}
 use Rattle.stored.proofs.Again.{fresh-again, burst-again, close-again}
 use Rattle.holzmotte.specs.Boundary.{ReceivesThroughC}
 use Rattle.holzmotte.proofs.Success as Success
-use Rattle.holzmotte_bursts.specs.Boundary.{BeginsThroughC, verdict, Left, leaves, spares, burstLeft, closeLeft, Leaves}
+use Rattle.holzmotte_bursts.specs.Boundary.{verdict, Left, leaves, spares, burstLeft, closeLeft, Leaves}
 use Rattle.holzmotte_bursts.specs.Joined.{Call, burst, close, leftOf, Made, Follow, takenOf, givenBy, stateAfter, countersAfter, lineAfter, bytesAfter, Whole}
 use Rattle.holzmotte_bursts.proofs.Verdicts.{begin-known, goes-on, refused-above, success}
 use Rattle.holzmotte_bursts.proofs.Slices.{both-long}
@@ -47,7 +47,7 @@ with counters a = countersWith (updated (countersIn counters) (a .counts) (a .ha
 in-turn : (counters : List ℕ) (a b : Added) → with (with counters a) b ≡ with counters (plusAdded a b)
 in-turn counters a b = twice-in-bytes (countersIn counters) (a .counts) (a .handed) counters (b .counts) (b .handed)
 
--- no call leaves the slice as it was; so would a call that adds nothing, were its numbers of 32 bits
+-- what accepted calls added; where there was none, the slice stands as it was, however short it is
 data Adds (before after : List ℕ) (a : Added) : Type 0 where
   untouched : after ≡ before → a ≡ noneAdded → Adds before after a
   counted : after ≡ with before a → Adds before after a
@@ -65,7 +65,7 @@ adds-last before now after a b (counted h) e = e ∙ ap (λ (z : List ℕ). with
 
 -- ---- one call
 
--- what it took, with what it left: nothing; or what a call of `bursts` takes and leaves
+-- a refused call took nothing and left state and counters; an accepted one took, left and added what a call of `bursts` does
 data Step (state counters taken state′ vectors′ counters′ : List ℕ) : Type 0 where
   spared : taken ≡ [] → state′ ≡ state → counters′ ≡ counters → Step state counters taken state′ vectors′ counters′
   made : (m : Plain.Made) → Replies (callOf (stateIn state) (m .call)) (m .reply) (m .room)
