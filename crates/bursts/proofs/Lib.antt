@@ -5,6 +5,7 @@ pub mod Storing
 pub mod Coding
 pub mod Going
 pub mod Reached
+pub mod Small
 pub mod Sums
 pub mod Joined
 pub mod Calls

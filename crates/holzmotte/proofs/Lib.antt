@@ -1,3 +1,4 @@
 pub mod Sends
 pub mod Receives
+pub mod Success
 pub mod Unique

@@ -110,7 +110,7 @@ module _ (edition : ℕ) where
 
     module _ (long : shortSlice (length summary) (length counters) ≡ false) where
       -- with none too short, all goes by the checks of receiving
-      verdict-is : verdict ≡ first (receiveChecks edition (length line) (length room))
+      pub verdict-is : verdict ≡ first (receiveChecks edition (length line) (length room))
       unfolding receiveVerdict
       verdict-is = first-after 2 (check 4 (shortSlice (length summary) (length counters))) (receiveChecks edition (length line) (length room)) long
 

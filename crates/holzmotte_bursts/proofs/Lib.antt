@@ -1,3 +1,4 @@
 pub mod Verdicts
 pub mod Slices
+pub mod Joined
 pub mod Unique

@@ -5,11 +5,12 @@ use mathlib.Core.Bool.{Bool, true, false}
 use mathlib.Core.List.{List, [], _∷_}
 use native.Mathlib.Omega.{arith}
 use lib.ListN.{length}
-use lib.Dec.{ltb}
-use borrow.Author.Tests.{lt-ltb, le-ltb}
+use lib.Dec.{ltb, lit<}
+use borrow.Author.Tests.{lt-ltb, le-ltb, ltb-false}
 use Rattle.refusals.specs.First.{Check, check, Verdict, accepted, refused, first, byVerdict}
-use Rattle.slices.specs.Slices.{tooShort, shortSlice, after}
-use Rattle.slices.proofs.Laws.{first-after, skipped}
+use Rattle.refusals.proofs.Laws.{passed}
+use Rattle.slices.specs.Slices.{resultOf, tooShort, shortSlice, after}
+use Rattle.slices.proofs.Laws.{first-after, skipped, Numbered, refusal-above, result-zero}
 use Rattle.bursts.specs.declared.State.{State}
 use Rattle.bursts.specs.Judging.{badState, roomFor, burstChecks, burstVerdict}
 use Rattle.bursts.specs.Burst.{stateFresh, BeginAnswer, begun, beginAnswer}
@@ -56,6 +57,13 @@ module _ (edition : ℕ) (state : List ℕ) where
   begin-done s state′ e l q =
       let z = goes (ltb 1 edition) (stateFresh edition) s e in
       (rw (z .0, le-ltb (length state) 232 l), rw (z .0, le-ltb (length state) 232 l) (q ∙ ap (λ (t : State). storedIn t state) (z .1)))
+
+  -- with a result of 0
+  pub begin-known : (state′ : List ℕ) → BeginsThroughC edition state 0 state′ → (edition ≤ 1) × (state′ ≡ storedIn (stateFresh edition) state)
+  unfolding beginVerdict
+  begin-known state′ q =
+      let v : beginVerdict edition (length state) ≡ accepted = result-zero _ (lit< tt, (lit< tt, tt)) (q .0) in
+      (ltb-false 1 edition (passed _ _ v .0), q .1 ∙ ap (λ (x : Verdict). byVerdict x (storedIn (stateFresh edition) state) (λ number place. state)) v)
 
 -- ---- a burst and the closing call
 
@@ -129,3 +137,29 @@ module _ (state : List ℕ) (line room summary counters : ℕ) where
     pub long-slices : shortSlice summary counters ≡ false → verdict state line room summary counters ≡ burstVerdict (stateIn state) line room
     unfolding burstVerdict
     long-slices e = past ∙ first-after 4 (check 4 (shortSlice summary counters)) own e
+
+  -- an accepted call is lent slices that are long enough, and is accepted by its own checks
+  long-enough : verdict state line room summary counters ≡ accepted → 232 ≤ length state
+  unfolding verdict
+  long-enough e = ltb-false (length state) 232 (passed _ _ e .0)
+
+  pub goes-on : verdict state line room summary counters ≡ accepted → (shortSlice summary counters ≡ false) × (burstVerdict (stateIn state) line room ≡ accepted)
+  goes-on e = by (shortSlice summary counters) refl
+    where
+      by : (b : Bool) → shortSlice summary counters ≡ b → (shortSlice summary counters ≡ false) × (burstVerdict (stateIn state) line room ≡ accepted)
+      by true h = absurd (never-there (stateIn state) line (sym (short-slices (long-enough e) h) ∙ e))
+      by false h = (h, sym (long-slices (long-enough e) h) ∙ e)
+
+  -- no check has number 0
+  numbered : Numbered (check 4 (tooShort 8 29 (length state)) ∷ after 4 (check 4 (shortSlice summary counters)) own)
+  unfolding burstChecks
+  numbered = (lit< tt, (lit< tt, (lit< tt, (lit< tt, (lit< tt, (lit< tt, (lit< tt, tt)))))))
+
+  -- a refusal's result is above 0, and 0 is a success
+  pub refused-above : (n p : ℕ) → verdict state line room summary counters ≡ refused n p → 0 < n
+  unfolding verdict
+  refused-above n p e = refusal-above _ numbered n p e
+
+  pub success : 0 ≡ resultOf (verdict state line room summary counters) → verdict state line room summary counters ≡ accepted
+  unfolding verdict
+  success e = result-zero _ numbered e

@@ -1,7 +1,7 @@
 -- Laws of checks with one more among them, and of words in a slice. Assumes nothing.
 use Prim.Native.Nat.{ℕ, zero, suc, zero-le, _+_, _*_, _^_, _≤_, _<_}
 use mathlib.Core.Path.{_≡_, refl, sym, ap, ap₂, _∙_}
-use mathlib.Core.Bool.{false, cond}
+use mathlib.Core.Bool.{Bool, true, false, cond}
 use mathlib.Core.List.{List, [], _∷_, _++_, append-assoc, append-nil}
 use native.Mathlib.Omega.{arith}
 use native.Mathlib.Nat.{mul-suc, mul-zero, zero-add, le-of-suc-le-suc, not-suc-le-zero}
@@ -13,7 +13,7 @@ use Rattle.bits.specs.Bits.{bit, streamBit, lineBit, cut}
 use Rattle.bits.proofs.Laws.{length-cut, cut-same, bit-below, bit-above, bit-lt, is-number, number-same, stream-cut}
 use Rattle.bits.proofs.Lists.{cut-add, stream-left, stream-right}
 use Rattle.refusals.specs.First.{Check, check, Verdict, accepted, refused, first, byVerdict}
-use Rattle.slices.specs.Slices.{after, wordAt, wordBytes, tooShort, summaryWith, counterWords}
+use Rattle.slices.specs.Slices.{resultOf, after, wordAt, wordBytes, tooShort, summaryWith, counterWords}
 use Rattle.counters.specs.declared.Counters.{Counters}
 
 -- one more check that does not apply changes nothing
@@ -44,6 +44,31 @@ pub kept : {A : Type 0} (v : Verdict) (success before : A)
     → byVerdict v (byVerdict v success (λ n p. before)) (λ n p. before) ≡ byVerdict v success (λ n p. before)
 kept accepted success before = refl
 kept (refused n p) success before = refl
+
+-- ---- a result of 0
+
+-- no check has number 0
+abbrev pub Numbered : List Check → Type 0
+Numbered [] = Unit
+Numbered (c ∷ cs) = (0 < c .number) × Numbered cs
+
+by-row : (b : Bool) (m q n p : ℕ) (v : Verdict) → 0 < m → (v ≡ refused n p → 0 < n) → cond b (refused m q) v ≡ refused n p → 0 < n
+by-row true m q n p v l h e = let z : m ≡ n = cc in omega arith
+by-row false m q n p v l h e = h e
+
+-- so a refusal's result is above 0
+pub refusal-above : (cs : List Check) → Numbered cs → (n p : ℕ) → first cs ≡ refused n p → 0 < n
+unfolding first
+refusal-above [] k n p e = absurd (let z : _≡_ {A = ℕ} 0 1 = cc in omega arith)
+refusal-above (c ∷ cs) k n p e = by-row (c .applies) (c .number) (c .place) n p (first cs) (k .0) (refusal-above cs (k .1) n p) e
+
+-- and 0 is a success
+pub result-zero : (cs : List Check) → Numbered cs → 0 ≡ resultOf (first cs) → first cs ≡ accepted
+result-zero cs k e = go (first cs) refl e
+  where
+    go : (v : Verdict) → first cs ≡ v → 0 ≡ resultOf v → first cs ≡ accepted
+    go accepted h e = h
+    go (refused n p) h e = absurd (omega (arith, refusal-above cs k n p h))
 
 -- ---- a summary's bytes
 
