@@ -136,16 +136,18 @@ pub fn judge(s: State, line: usize, room: usize) -> Judged
     ensures { λ r. ⌜ verdictOf r ≡ burstVerdict s line room ⌝ }
 {
     let carried = s.carried;
+    let bytes = s.bytes;
+    let bad = bad_state(s);
     if 1 < s.edition {
         return Judged::Refused(Refusal::UnknownEdition);
     }
     if s.closed {
         return Judged::Refused(Refusal::Closed);
     }
-    if bad_state(s) {
+    if bad {
         return Judged::Refused(Refusal::BadState);
     }
-    if 825000 - s.bytes < line as u64 {
+    if 825000 - bytes < line as u64 {
         return Judged::Refused(Refusal::TooMuch);
     }
     if (room as u64) < 10 * ((carried.count + 8 * (line as u64)) / 66 + 1) {

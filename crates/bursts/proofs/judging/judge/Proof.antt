@@ -6,29 +6,29 @@ use Rattle.bursts.proofs.Checks.{fair, thirteen, nine, ten, one, four, 
 use Rattle.bursts.proofs.judging.judge.Statement.{statement}
 use Rattle.bursts.proofs.judging.judge.Tie as tie
 
-returns : tie.Need-returns
-returns c = thirteen (c .before .before .before .args .s) (c .before .before .before .args .line) (c .before .before .before .args .room) (c .if1 .taken)
-
-returns-2 : tie.Need-returns-2
-returns-2 c = nine (c .before .before .before .before .args .s) (c .before .before .before .before .args .line) (c .before .before .before .before .args .room) (c .before .if1 .left) (c .if2 .taken)
-
 bad-state-requires : tie.Need-bad-state-requires
 bad-state-requires c κs = search needs
 
+returns : tie.Need-returns
+returns c = thirteen (c .before .before .before .before .args .s) (c .before .before .before .before .args .line) (c .before .before .before .before .args .room) (c .if1 .taken)
+
+returns-2 : tie.Need-returns-2
+returns-2 c = nine (c .before .before .before .before .before .args .s) (c .before .before .before .before .before .args .line) (c .before .before .before .before .before .args .room) (c .before .if1 .left) (c .if2 .taken)
+
 returns-3 : tie.Need-returns-3
-returns-3 c = ten (c .before .before .before .before .before .before .args .s) (c .before .before .before .before .before .before .args .line) (c .before .before .before .before .before .before .args .room) (c .before .before .before .if1 .left) (c .before .before .if2 .left) (sym (c .before .bad-state .ensures) ∙ c .if3 .taken)
+returns-3 c = ten (c .before .before .before .before .before .before .args .s) (c .before .before .before .before .before .before .args .line) (c .before .before .before .before .before .before .args .room) (c .before .before .if1 .left) (c .before .if2 .left) (sym (c .before .before .before .before .bad-state .ensures) ∙ c .if3 .taken)
 
 sub-if4 : tie.Need-sub-if4
-sub-if4 c = fair (c .before .before .before .before .before .before .before .args .s) (sym (c .before .before .bad-state .ensures) ∙ c .before .if3 .left) .bytes
+sub-if4 c = fair (c .before .before .before .before .before .before .args .s) (sym (c .before .before .before .before .bad-state .ensures) ∙ c .if3 .left) .bytes
 
 returns-4 : tie.Need-returns-4
-returns-4 c = one (c .before .before .before .before .before .before .before .before .args .s) (c .before .before .before .before .before .before .before .before .args .line) (c .before .before .before .before .before .before .before .before .args .room) (c .before .before .before .before .before .if1 .left) (c .before .before .before .before .if2 .left) (sym (c .before .before .before .bad-state .ensures) ∙ c .before .before .if3 .left) (c .if4 .taken)
+returns-4 c = one (c .before .before .before .before .before .before .before .args .s) (c .before .before .before .before .before .before .before .args .line) (c .before .before .before .before .before .before .before .args .room) (c .before .before .before .if1 .left) (c .before .before .if2 .left) (sym (c .before .before .before .before .before .bad-state .ensures) ∙ c .before .if3 .left) (c .if4 .taken)
 
 mul-if5 : tie.Need-mul-if5
 mul-if5 c = search needs
 
 add-if5 : tie.Need-add-if5
-add-if5 c = omega (arith, fair (c .before .before .before .before .before .before .before .before .before .args .s) (sym (c .before .before .before .before .bad-state .ensures) ∙ c .before .before .before .if3 .left) .carried, fair (c .before .before .before .before .before .before .before .before .before .args .s) (sym (c .before .before .before .before .bad-state .ensures) ∙ c .before .before .before .if3 .left) .bytes, c .before .if4 .left)
+add-if5 c = omega (arith, fair (c .before .before .before .before .before .before .before .before .args .s) (sym (c .before .before .before .before .before .before .bad-state .ensures) ∙ c .before .before .if3 .left) .carried, fair (c .before .before .before .before .before .before .before .before .args .s) (sym (c .before .before .before .before .before .before .bad-state .ensures) ∙ c .before .before .if3 .left) .bytes, c .before .if4 .left)
 
 add-if5-2 : tie.Need-add-if5-2
 add-if5-2 c = search needs
@@ -37,10 +37,10 @@ mul-if5-2 : tie.Need-mul-if5-2
 mul-if5-2 c = search needs
 
 returns-5 : tie.Need-returns-5
-returns-5 c = four (c .before .before .before .before .before .before .before .before .before .before .args .s) (c .before .before .before .before .before .before .before .before .before .before .args .line) (c .before .before .before .before .before .before .before .before .before .before .args .room) (c .before .before .before .before .before .before .before .if1 .left) (c .before .before .before .before .before .before .if2 .left) (sym (c .before .before .before .before .before .bad-state .ensures) ∙ c .before .before .before .before .if3 .left) (c .before .before .if4 .left) (c .if5 .taken)
+returns-5 c = four (c .before .before .before .before .before .before .before .before .before .args .s) (c .before .before .before .before .before .before .before .before .before .args .line) (c .before .before .before .before .before .before .before .before .before .args .room) (c .before .before .before .before .before .if1 .left) (c .before .before .before .before .if2 .left) (sym (c .before .before .before .before .before .before .before .bad-state .ensures) ∙ c .before .before .before .if3 .left) (c .before .before .if4 .left) (c .if5 .taken)
 
 returns-6 : tie.Need-returns-6
-returns-6 c = through (c .before .before .before .before .before .before .before .before .before .before .args .s) (c .before .before .before .before .before .before .before .before .before .before .args .line) (c .before .before .before .before .before .before .before .before .before .before .args .room) (c .before .before .before .before .before .before .before .if1 .left) (c .before .before .before .before .before .before .if2 .left) (sym (c .before .before .before .before .before .bad-state .ensures) ∙ c .before .before .before .before .if3 .left) (c .before .before .if4 .left) (c .if5 .left)
+returns-6 c = through (c .before .before .before .before .before .before .before .before .before .args .s) (c .before .before .before .before .before .before .before .before .before .args .line) (c .before .before .before .before .before .before .before .before .before .args .room) (c .before .before .before .before .before .if1 .left) (c .before .before .before .before .if2 .left) (sym (c .before .before .before .before .before .before .before .bad-state .ensures) ∙ c .before .before .before .if3 .left) (c .before .before .if4 .left) (c .if5 .left)
 
 pub judge-spec : {M : Type 1} → statement M
-judge-spec = tie.close (tie.spec returns returns-2 bad-state-requires returns-3 sub-if4 returns-4 mul-if5 add-if5 add-if5-2 mul-if5-2 returns-5 returns-6)
+judge-spec = tie.close (tie.spec bad-state-requires returns returns-2 returns-3 sub-if4 returns-4 mul-if5 add-if5 add-if5-2 mul-if5-2 returns-5 returns-6)
