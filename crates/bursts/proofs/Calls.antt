@@ -36,7 +36,7 @@ use Rattle.bursts.specs.Meaning.{states, linkIn, feedIn, diagramIn, held
 use Rattle.bursts.specs.Judging.{badState, roomFor, burstChecks, burstVerdict}
 use Rattle.bursts.specs.Burst.{stateFresh, BeginAnswer, begun, beginAnswer, settledFrom, burstBytes, burstAdded, burstState, closeJudged, closeAdded, closeState, summaryIn, Called, refuses, atStart, burstCall, closeCall, Replies}
 use Rattle.bursts.specs.Burst as Burst
-use Rattle.bursts.specs.Joined.{plusAdded, noneAdded, addedIn, Call, burst, close, callOf, Made, Follow, takenOf, givenBy, stateAfter, lineAfter, bytesAfter, addedAfter, Whole, NeverBad, Accepts}
+use Rattle.bursts.specs.Joined.{plusAdded, noneAdded, addedIn, Call, burst, close, callOf, Made, Follow, takenOf, givenBy, stateAfter, lineAfter, bytesAfter, addedAfter, Whole, InBursts, AsOne, NeverBad, Accepts}
 use Rattle.bursts.proofs.Orderly.{Orderly, orderly}
 use Rattle.bursts.proofs.Checks.{Fair, Passed, passes-ten, passed-all, all-passed}
 use Rattle.bursts.proofs.Going.{bytes-tens, close-tens}
@@ -235,6 +235,17 @@ whole edition s b ms f room room′ r p last e wide wide′ one q enough =
       q .0 ∙ sym (y .0) ∙ ap received (sym (w .0)),
       q .1 ∙ sym (y .1) ∙ ap (λ (x : List ℕ). atStart x wide) (sym (w .1) ∙ ap (λ (x : List ℕ). bytesAfter s ms ++ x) (sym given)),
       ap₂ plusAdded (h .1) (p .2 ∙ added-by t room (c .0)) ∙ sym (close-sums t) ∙ ap addedIn (sym (c .1)),
+    )
+
+-- what the calls of a line in bursts give
+pub as-one : AsOne
+as-one edition line bytes last b =
+    let h = reach edition (b .fresh) (b .begins) (b .calls) (b .follow) in
+    let t = stateAfter (b .fresh) (b .calls) in
+    let w = whole-of edition (known edition (b .fresh) (b .begins) .0) (lineAfter (b .calls)) (bytesAfter (b .fresh) (b .calls)) t (h .0) (b .room) last (sym (b .closes .1) ∙ b .ends) in
+    let given : givenBy t (b .reply) (b .left) ≡ takes t (closeCall t (b .room)) = ap₂ (λ (z : State) (x : List ℕ). take (10 * (z .vectors - t .vectors)) x) (b .closes .0) (b .closes .3) in (
+      sym (b .joined) ∙ ap (λ (x : List ℕ). bytesAfter (b .fresh) (b .calls) ++ x) given ∙ w .1 ∙ ap (receivedVectors (editionOf edition)) (b .whole),
+      w .0 ∙ ap (summaryOf (editionOf edition)) (b .whole),
     )
 
 -- ---- what a line leads to is never refused with 10

@@ -150,28 +150,31 @@ refuses s room number place =
 abbrev pub atStart : (bytes room : List ℕ) → List ℕ
 atStart bytes room = bytes ++ drop (length bytes) room
 
--- a burst, and the closing call
-unfoldable pub burstCall : State → (line room : List ℕ) → Called
-burstCall s line room =
-    byVerdict (burstVerdict s (length line) (length room))
-    (record {
+-- a burst that is accepted, and an accepted closing call
+abbrev pub burstDone : State → (line room : List ℕ) → Called
+burstDone s line room =
+    record {
       state = burstState s line;
       answer = received (summaryIn (burstState s line) false);
       added = burstAdded s line;
       room = atStart (burstBytes s line) room;
-    })
-    (refuses s room)
+    }
 
-unfoldable pub closeCall : State → (room : List ℕ) → Called
-closeCall s room =
-    byVerdict (burstVerdict s 0 (length room))
-    (record {
+abbrev pub closeDone : State → (room : List ℕ) → Called
+closeDone s room =
+    record {
       state = closeState s;
       answer = received (summaryIn (closeState s) (judgedAlone (closeJudged s)));
       added = closeAdded s;
       room = atStart (bytesOf (closeJudged s)) room;
-    })
-    (refuses s room)
+    }
+
+-- any burst, and any closing call
+unfoldable pub burstCall : State → (line room : List ℕ) → Called
+burstCall s line room = byVerdict (burstVerdict s (length line) (length room)) (burstDone s line room) (refuses s room)
+
+unfoldable pub closeCall : State → (room : List ℕ) → Called
+closeCall s room = byVerdict (burstVerdict s 0 (length room)) (closeDone s room) (refuses s room)
 
 -- the promise: a call that comes to `c` handed back `r` and left `room′`
 abbrev pub Replies : Called → Reply → List ℕ → Type 0

@@ -117,6 +117,27 @@ Whole =
     × (wide′ ≡ atStart (bytesAfter s ms ++ givenBy (stateAfter s ms) r room′) wide)
     × (plusAdded (addedAfter ms) (r .added) ≡ addedIn last)
 
+-- A line in bursts: a fresh state, any calls, and an accepted closing call; of them all, the line bytes that were taken, the vectors' bytes
+-- joined, and the last summary
+pub record InBursts (edition : ℕ) (line bytes : List ℕ) (last : Summary) : Type 0 where
+  pub fresh : State
+  pub begins : beginAnswer edition ≡ begun fresh
+  pub calls : List Made
+  pub follow : Follow fresh calls
+  pub room : List ℕ
+  pub reply : Reply
+  pub left : List ℕ
+  pub closes : Replies (closeCall (stateAfter fresh calls) room) reply left
+  pub ends : answerOf (reply .answer) ≡ received last
+  pub whole : lineAfter calls ≡ line
+  pub joined : bytesAfter fresh calls ++ givenBy (stateAfter fresh calls) reply left ≡ bytes
+
+-- "Demands 2 and 3 are read over the joined line": what they say of a line's vectors and of its summary holds in bursts
+abbrev pub AsOne : Type 0
+AsOne =
+    (edition : ℕ) (line bytes : List ℕ) (last : Summary) → InBursts edition line bytes last
+    → (bytes ≡ receivedVectors (editionOf edition) line) × (last ≡ summaryOf (editionOf edition) line)
+
 -- "a handed-in state .. and given for nothing else": what a fresh state leads to is never refused with 10
 abbrev pub NeverBad : Type 0
 NeverBad = (edition : ℕ) (s : State) → beginAnswer edition ≡ begun s → (ms : List Made) → Follow s ms → badState (stateAfter s ms) ≡ false

@@ -7,3 +7,4 @@ pub mod Payloads
 pub mod SentBlocks
 pub mod Demand3
 pub mod Calls
+pub mod InBursts

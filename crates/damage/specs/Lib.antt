@@ -1,2 +1,3 @@
 pub mod Damage
 pub mod Demand3
+pub mod InBursts

@@ -12,3 +12,4 @@ pub mod ThroughC
 pub mod Demand2
 pub mod Calls
 pub mod Witness
+pub mod InBursts

@@ -8,7 +8,6 @@ use native.Mathlib.Nat.{add-zero}
 use lib.ListN.{length, drop, replicate}
 use Rattle.refusals.specs.First.{Verdict, accepted, refused, byVerdict}
 use Rattle.receiving.specs.Receive.{judgedAlone}
-use Rattle.receiving.specs.Parts.{bytesOf}
 use Rattle.receiving.specs.Answer.{ReceiveAnswer, received, answerOf}
 use Rattle.receiving.specs.Answer as Answer
 use Rattle.receiving.specs.declared.Summary.{Summary}
@@ -24,7 +23,7 @@ use Rattle.bursts.specs.declared.State.{State}
 use Rattle.bursts.specs.declared.Added.{Added}
 use Rattle.bursts.specs.declared.Reply.{Reply}
 use Rattle.bursts.specs.Judging.{burstVerdict}
-use Rattle.bursts.specs.Burst.{Called, refuses, burstBytes, burstAdded, burstState, closeJudged, closeAdded, closeState, summaryIn, atStart, burstCall, closeCall, Replies}
+use Rattle.bursts.specs.Burst.{Called, refuses, burstState, closeJudged, closeState, summaryIn, burstDone, closeDone, burstCall, closeCall, Replies}
 use Rattle.stored.specs.Stored.{stateIn, storedIn}
 use Rattle.holzmotte_bursts.specs.Boundary.{verdict, Left, leaves, spares, burstLeft, closeLeft, Leaves}
 use Rattle.holzmotte_bursts.specs.Coded.{Placed, LeftBy}
@@ -114,22 +113,13 @@ module _ (state vectors summary counters vectors′ : List ℕ) (s : State) (r :
 
 -- a burst
 module _ (state line vectors summary counters vectors′ : List ℕ) (s : State) (r : Reply) (w : Replies (burstCall s line vectors) r vectors′) where
-  abbrev good-burst : Called
-  good-burst =
-      record {
-        state = burstState s line;
-        answer = received (summaryIn (burstState s line) false);
-        added = burstAdded s line;
-        room = atStart (burstBytes s line) vectors;
-      }
-
-  burst-by : burstCall s line vectors ≡ byVerdict (burstVerdict s (length line) (length vectors)) good-burst (refuses s vectors)
+  burst-by : burstCall s line vectors ≡ byVerdict (burstVerdict s (length line) (length vectors)) (burstDone s line vectors) (refuses s vectors)
   unfolding burstCall
   burst-by = refl
 
   pub burst-placed : Placed (answerOf (r .answer))
   burst-placed =
-      made-placed state vectors summary counters vectors′ s r good-burst (summaryIn (burstState s line) false) refl (burstVerdict s (length line) (length vectors))
+      made-placed state vectors summary counters vectors′ s r (burstDone s line vectors) (summaryIn (burstState s line) false) refl (burstVerdict s (length line) (length vectors))
       (λ n p q. place-zero s (length line) (length vectors) n p q) (burstCall s line vectors) burst-by w
 
   pub burst-answered : s ≡ stateIn state → 232 ≤ length state → shortSlice (length summary) (length counters) ≡ false
@@ -138,28 +128,19 @@ module _ (state line vectors summary counters vectors′ : List ℕ) (s : State)
   unfolding burstLeft
   burst-answered es long enough z state′ summary′ counters′ l =
       let e = long-slices state (length line) (length vectors) (length summary) (length counters) long enough in
-      let m = made-left state vectors summary counters vectors′ s r good-burst (summaryIn (burstState s line) false) refl (burstVerdict s (length line) (length vectors)) (burstCall s line vectors) burst-by w z state′ summary′ counters′ l in
+      let m = made-left state vectors summary counters vectors′ s r (burstDone s line vectors) (summaryIn (burstState s line) false) refl (burstVerdict s (length line) (length vectors)) (burstCall s line vectors) burst-by w z state′ summary′ counters′ l in
       subst (λ (v : Verdict). Leaves (byVerdict v (leaves state summary counters (burstCall (stateIn state) line vectors)) (spares state vectors summary counters)) z state′ vectors′ summary′ counters′) (sym e)
       (subst (λ (x : State). Leaves (byVerdict (burstVerdict x (length line) (length vectors)) (leaves state summary counters (burstCall x line vectors)) (spares state vectors summary counters)) z state′ vectors′ summary′ counters′) es m)
 
 -- the closing call
 module _ (state vectors summary counters vectors′ : List ℕ) (s : State) (r : Reply) (w : Replies (closeCall s vectors) r vectors′) where
-  abbrev good-close : Called
-  good-close =
-      record {
-        state = closeState s;
-        answer = received (summaryIn (closeState s) (judgedAlone (closeJudged s)));
-        added = closeAdded s;
-        room = atStart (bytesOf (closeJudged s)) vectors;
-      }
-
-  close-by : closeCall s vectors ≡ byVerdict (burstVerdict s 0 (length vectors)) good-close (refuses s vectors)
+  close-by : closeCall s vectors ≡ byVerdict (burstVerdict s 0 (length vectors)) (closeDone s vectors) (refuses s vectors)
   unfolding closeCall
   close-by = refl
 
   pub close-placed : Placed (answerOf (r .answer))
   close-placed =
-      made-placed state vectors summary counters vectors′ s r good-close (summaryIn (closeState s) (judgedAlone (closeJudged s))) refl (burstVerdict s 0 (length vectors))
+      made-placed state vectors summary counters vectors′ s r (closeDone s vectors) (summaryIn (closeState s) (judgedAlone (closeJudged s))) refl (burstVerdict s 0 (length vectors))
       (λ n p q. place-zero s 0 (length vectors) n p q) (closeCall s vectors) close-by w
 
   pub close-answered : s ≡ stateIn state → 232 ≤ length state → shortSlice (length summary) (length counters) ≡ false
@@ -168,7 +149,7 @@ module _ (state vectors summary counters vectors′ : List ℕ) (s : State) (r :
   unfolding closeLeft
   close-answered es long enough z state′ summary′ counters′ l =
       let e = long-slices state 0 (length vectors) (length summary) (length counters) long enough in
-      let m = made-left state vectors summary counters vectors′ s r good-close (summaryIn (closeState s) (judgedAlone (closeJudged s))) refl (burstVerdict s 0 (length vectors)) (closeCall s vectors) close-by w z state′ summary′ counters′ l in
+      let m = made-left state vectors summary counters vectors′ s r (closeDone s vectors) (summaryIn (closeState s) (judgedAlone (closeJudged s))) refl (burstVerdict s 0 (length vectors)) (closeCall s vectors) close-by w z state′ summary′ counters′ l in
       subst (λ (v : Verdict). Leaves (byVerdict v (leaves state summary counters (closeCall (stateIn state) vectors)) (spares state vectors summary counters)) z state′ vectors′ summary′ counters′) (sym e)
       (subst (λ (x : State). Leaves (byVerdict (burstVerdict x 0 (length vectors)) (leaves state summary counters (closeCall x vectors)) (spares state vectors summary counters)) z state′ vectors′ summary′ counters′) es m)
 
