@@ -8,7 +8,7 @@ use lib.Pow.{shr-shr}
 use Rattle.block.specs.declared.Edition.{Edition}
 use Rattle.block.specs.declared.Kind.{Kind}
 use Rattle.block.specs.declared.Class.{Class}
-use Rattle.block.specs.Block.{decoded, classOf, kindIn}
+use Rattle.block.specs.Block.{decoded, good, classOf, kindIn}
 use Rattle.tables.specs.Tables.{editionIn}
 use Rattle.decoding.specs.declared.Vector.{Vector}
 use Rattle.decoding.specs.declared.Decoded.{Decoded}
@@ -68,3 +68,7 @@ kind-in-unique c k k′ p q = p ∙ sym q
 
 pub classify-unique : (ed : Edition) (h x : ℕ) (c c′ : Class) → c ≡ classOf ed h x → c′ ≡ classOf ed h x → c ≡ c′
 classify-unique ed h x c c′ p q = p ∙ sym q
+
+-- `good_class`
+pub good-class-unique : (k : Kind) (r r′ : Class) → r ≡ good k → r′ ≡ good k → r ≡ r′
+good-class-unique k r r′ p q = p ∙ sym q
