@@ -302,12 +302,19 @@ reach-good edition line bytes s (opened a o few) = passes-ten s (at-orderly edit
 reach-good edition line bytes s (ended given t a few b e) =
     subst (λ (z : State). badState z ≡ false) (sym e) (passes-ten (closeState t) (at-orderly edition line given t a few) (at-closed edition line given t a few))
 
+reach-edition : (edition : ℕ) (line bytes : List ℕ) (s : State) → Reach edition line bytes s → s .edition ≡ edition
+unfolding closeState
+reach-edition edition line bytes s (opened a o few) = a .chosen
+reach-edition edition line bytes s (ended given t a few b e) = ap (λ (z : State). z .edition) e ∙ a .chosen
+
 pub never-bad : NeverBad
-never-bad edition s b ms f = reach-good edition (lineAfter ms) (bytesAfter s ms) (stateAfter s ms) (reach edition s b ms f .0)
+never-bad edition s b ms f =
+    let r = reach edition s b ms f .0 in
+    (reach-good edition (lineAfter ms) (bytesAfter s ms) (stateAfter s ms) r, reach-edition edition (lineAfter ms) (bytesAfter s ms) (stateAfter s ms) r)
 
 -- and accepted before the closing call
-reach-size : (edition : ℕ) (line bytes : List ℕ) (s : State) → Reach edition line bytes s → s .closed ≡ false → (s .bytes ≡ length line) × (s .edition ≡ edition)
-reach-size edition line bytes s (opened a o few) u = (a .size, a .chosen)
+reach-size : (edition : ℕ) (line bytes : List ℕ) (s : State) → Reach edition line bytes s → s .closed ≡ false → s .bytes ≡ length line
+reach-size edition line bytes s (opened a o few) u = a .size
 reach-size edition line bytes s (ended given t a few b e) u = absurd (true≢false (sym (shut edition s t e) ∙ u))
 
 pub accepts : Accepts
@@ -315,5 +322,5 @@ accepts edition s b ms f u line room sum fits =
     let t = stateAfter s ms in
     let n = reach-size edition (lineAfter ms) (bytesAfter s ms) t (reach edition s b ms f .0) u in
     let k = known edition s b .0 in
-    all-passed t line room
-    (record { known = omega (arith, n .1, k); unclosed = u; good = never-bad edition s b ms f; sum = omega (arith, n .0); fits = fits })
+    let good = never-bad edition s b ms f in
+    all-passed t line room (record { known = omega (arith, good .1, k); unclosed = u; good = good .0; sum = omega (arith, n); fits = fits })

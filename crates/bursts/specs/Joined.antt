@@ -138,9 +138,11 @@ AsOne =
     (edition : ℕ) (line bytes : List ℕ) (last : Summary) → InBursts edition line bytes last
     → (bytes ≡ receivedVectors (editionOf edition) line) × (last ≡ summaryOf (editionOf edition) line)
 
--- "a handed-in state .. and given for nothing else": what a fresh state leads to is never refused with 10
+-- "a handed-in state .. and given for nothing else": what a fresh state leads to is never refused with 10, and has its edition
 abbrev pub NeverBad : Type 0
-NeverBad = (edition : ℕ) (s : State) → beginAnswer edition ≡ begun s → (ms : List Made) → Follow s ms → badState (stateAfter s ms) ≡ false
+NeverBad =
+    (edition : ℕ) (s : State) → beginAnswer edition ≡ begun s → (ms : List Made) → Follow s ms
+    → (badState (stateAfter s ms) ≡ false) × (stateAfter s ms .edition ≡ edition)
 
 -- "may be sent again with more room": before an accepted closing call, any call is accepted whose bytes keep the sum within the limit and that
 -- is lent the room that is asked for. Its state is that after the accepted calls, whatever was refused between them.

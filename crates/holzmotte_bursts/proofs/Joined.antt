@@ -22,7 +22,7 @@ use Rattle.slices.proofs.Totals.{twice-in-bytes}
 use Rattle.bursts.specs.declared.State.{State}
 use Rattle.bursts.specs.declared.Added.{Added}
 use Rattle.bursts.specs.declared.Reply.{Reply}
-use Rattle.bursts.specs.Judging.{burstVerdict}
+use Rattle.bursts.specs.Judging.{badState, burstVerdict}
 use Rattle.bursts.specs.Burst.{stateFresh, begun, beginAnswer, burstBytes, burstAdded, burstState, closeJudged, closeAdded, closeState, summaryIn, atStart, burstCall, closeCall, Replies}
 use Rattle.bursts.specs.Joined.{plusAdded, noneAdded, addedIn, callOf}
 use Rattle.bursts.specs.Joined as Plain
@@ -32,8 +32,8 @@ use Rattle.stored.specs.Stored.{stateIn, storedIn}
 use Rattle.stored.proofs.Again.{fresh-again, burst-again, close-again}
 use Rattle.holzmotte.specs.Boundary.{ReceivesThroughC}
 use Rattle.holzmotte.proofs.Success as Success
-use Rattle.holzmotte_bursts.specs.Boundary.{verdict, Left, leaves, spares, burstLeft, closeLeft, Leaves}
-use Rattle.holzmotte_bursts.specs.Joined.{Call, burst, close, leftOf, Made, Follow, takenOf, givenBy, stateAfter, countersAfter, lineAfter, bytesAfter, Whole}
+use Rattle.holzmotte_bursts.specs.Boundary.{BeginsThroughC, verdict, Left, leaves, spares, burstLeft, closeLeft, Leaves}
+use Rattle.holzmotte_bursts.specs.Joined.{NeverBad, Call, burst, close, leftOf, Made, Follow, takenOf, givenBy, stateAfter, countersAfter, lineAfter, bytesAfter, Whole}
 use Rattle.holzmotte_bursts.proofs.Verdicts.{begin-known, goes-on, refused-above, success}
 use Rattle.holzmotte_bursts.proofs.Slices.{both-long}
 
@@ -310,13 +310,25 @@ module _ (edition : ℕ) (state counters : List ℕ) (ms : List Made) (w : Told 
       ∙ sym (adds-last counters found counters′ (Plain.addedAfter (w .calls)) (closeAdded (stateIn S)) (w .total)
       (closed-counters S vectors summary found v 0 state′ vectors′ summary′ counters′ l))
 
+-- a state that was begun here is the fresh one of a known edition
+begun-here : (edition : ℕ) (slice state : List ℕ) → BeginsThroughC edition slice 0 state → (edition ≤ 1) × (beginAnswer edition ≡ begun (stateIn state))
+begun-here edition slice state b =
+    let k = begin-known edition slice state b in
+    (k .0, fresh edition (k .0) ∙ ap begun (sym (ap stateIn (k .1) ∙ fresh-again edition slice (k .0))))
+
 pub whole : Whole
 whole edition slice state b counters ms f vectors summary state′ vectors′ summary′ counters′ l room sum room′ sum′ counters″ q =
-    let k = begin-known edition slice state b in
-    let begins : beginAnswer edition ≡ begun (stateIn state) = fresh edition (k .0) ∙ ap begun (sym (ap stateIn (k .1) ∙ fresh-again edition slice (k .0))) in
+    let begins = begun-here edition slice state b .1 in
     let w = told state counters ms f in
     let v = success (stateAfter state ms) 0 (length vectors) (length summary) (length (countersAfter counters ms)) (l .0 ∙ close-result (stateAfter state ms) vectors summary (countersAfter counters ms) _ refl) in (
       joined-room edition state counters ms w begins vectors summary state′ vectors′ summary′ counters′ l v room sum room′ sum′ counters″ q,
       joined-summary edition state counters ms w begins vectors summary state′ vectors′ summary′ counters′ l v room sum room′ sum′ counters″ q,
       joined-counters edition state counters ms w begins vectors summary state′ vectors′ summary′ counters′ l v room sum room′ sum′ counters″ q,
     )
+
+pub never-bad : NeverBad
+never-bad edition slice state b counters ms f =
+    let h = begun-here edition slice state b in
+    let w = told state counters ms f in
+    let n = Calls.never-bad edition (stateIn state) (h .1) (w .calls) (w .follow) in
+    (ap badState (w .end) ∙ n .0, omega (arith, ap (λ (s : State). s .edition) (w .end), n .1, h .0))

@@ -1,12 +1,13 @@
 -- Document 02, 2/13, through C: however the bytes are cut, the vectors joined, the last summary and the counters are those of one call of
 -- `holzmotte_receive` over the whole. As types: the proofs are in proofs/.
-use Prim.Native.Nat.{ℕ, _-_, _*_}
-use mathlib.Core.Bool.{cond}
+use Prim.Native.Nat.{ℕ, _-_, _*_, _≤_}
+use mathlib.Core.Bool.{false, cond}
 use mathlib.Core.Path.{_≡_}
 use mathlib.Core.List.{List, [], _∷_, _++_}
 use lib.ListN.{take}
 use lib.Dec.{eqb}
 use Rattle.slices.specs.Slices.{receiveLength}
+use Rattle.bursts.specs.Judging.{badState}
 use Rattle.bursts.specs.Burst.{atStart}
 use Rattle.stored.specs.Stored.{stateIn}
 use Rattle.holzmotte.specs.Boundary.{ReceivesThroughC}
@@ -73,3 +74,10 @@ Whole =
     → (room′ ≡ atStart (bytesAfter state ms ++ givenBy (stateAfter state ms) state′ vectors′) room)
     × (take (8 * receiveLength) sum′ ≡ take (8 * receiveLength) summary′)
     × (counters″ ≡ counters′)
+
+-- What `holzmotte_begin` wrote, and since then these functions alone, is never refused with 10, nor with 13.
+abbrev pub NeverBad : Type 0
+NeverBad =
+    (edition : ℕ) (slice state : List ℕ) → BeginsThroughC edition slice 0 state
+    → (counters : List ℕ) (ms : List Made) → Follow state counters ms
+    → (badState (stateIn (stateAfter state ms)) ≡ false) × (stateIn (stateAfter state ms) .edition ≤ 1)
