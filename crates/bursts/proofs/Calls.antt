@@ -222,30 +222,49 @@ whole-of edition k line bytes s (opened a o few) room last e =
       few,
     )
 
-pub whole : Whole
-whole edition s b ms f room room′ r p last e wide wide′ one q enough =
-    let h = reach edition s b ms f in
-    let t = stateAfter s ms in
-    let line = lineAfter ms in
-    let k = known edition s b .0 in
-    let w = whole-of edition k line (bytesAfter s ms) t (h .0) room last (sym (p .1) ∙ e) in
-    let y = passes edition line wide k (w .2) enough in
-    let given : givenBy t r room′ ≡ takes t (closeCall t room) = ap₂ (λ (z : State) (x : List ℕ). take (10 * (z .vectors - t .vectors)) x) (p .0) (p .3) in
-    let c = closing t room last (burstVerdict t 0 (length room)) refl (sym (p .1) ∙ e) in (
-      q .0 ∙ sym (y .0) ∙ ap received (sym (w .0)),
-      q .1 ∙ sym (y .1) ∙ ap (λ (x : List ℕ). atStart x wide) (sym (w .1) ∙ ap (λ (x : List ℕ). bytesAfter s ms ++ x) (sym given)),
-      ap₂ plusAdded (h .1) (p .2 ∙ added-by t room (c .0)) ∙ sym (close-sums t) ∙ ap addedIn (sym (c .1)),
-    )
-
 -- what the calls of a line in bursts give
+module _ (edition : ℕ) (line bytes : List ℕ) (last : Summary) (b : InBursts edition line bytes last) where
+  -- the state that the closing call finds
+  abbrev found : State
+  found = stateAfter (b .fresh) (b .calls)
+
+  reached : Reach edition (lineAfter (b .calls)) (bytesAfter (b .fresh) (b .calls)) found × (addedAfter (b .calls) ≡ sums found)
+  reached = reach edition (b .fresh) (b .begins) (b .calls) (b .follow)
+
+  says : closeCall found (b .room) .answer ≡ received last
+  says = sym (b .closes .1) ∙ b .ends
+
+  of-calls : (last ≡ summaryOf (editionOf edition) (lineAfter (b .calls)))
+      × (bytesAfter (b .fresh) (b .calls) ++ takes found (closeCall found (b .room)) ≡ receivedVectors (editionOf edition) (lineAfter (b .calls)))
+      × (length (lineAfter (b .calls)) ≤ 825000)
+  of-calls =
+      whole-of edition (known edition (b .fresh) (b .begins) .0) (lineAfter (b .calls)) (bytesAfter (b .fresh) (b .calls)) found (reached .0) (b .room) last says
+
+  given : givenBy found (b .reply) (b .left) ≡ takes found (closeCall found (b .room))
+  given = ap₂ (λ (z : State) (x : List ℕ). take (10 * (z .vectors - found .vectors)) x) (b .closes .0) (b .closes .3)
+
+  bytes-one : bytes ≡ receivedVectors (editionOf edition) line
+  bytes-one =
+      sym (b .joined) ∙ ap (λ (x : List ℕ). bytesAfter (b .fresh) (b .calls) ++ x) given ∙ of-calls .1 ∙ ap (receivedVectors (editionOf edition)) (b .whole)
+
+  summary-one : last ≡ summaryOf (editionOf edition) line
+  summary-one = of-calls .0 ∙ ap (summaryOf (editionOf edition)) (b .whole)
+
+  added-one : plusAdded (addedAfter (b .calls)) (b .reply .added) ≡ addedIn last
+  added-one =
+      let c = closing found (b .room) last (burstVerdict found 0 (length (b .room))) refl says in
+      ap₂ plusAdded (reached .1) (b .closes .2 ∙ added-by found (b .room) (c .0)) ∙ sym (close-sums found) ∙ ap addedIn (sym (c .1))
+
 pub as-one : AsOne
-as-one edition line bytes last b =
-    let h = reach edition (b .fresh) (b .begins) (b .calls) (b .follow) in
-    let t = stateAfter (b .fresh) (b .calls) in
-    let w = whole-of edition (known edition (b .fresh) (b .begins) .0) (lineAfter (b .calls)) (bytesAfter (b .fresh) (b .calls)) t (h .0) (b .room) last (sym (b .closes .1) ∙ b .ends) in
-    let given : givenBy t (b .reply) (b .left) ≡ takes t (closeCall t (b .room)) = ap₂ (λ (z : State) (x : List ℕ). take (10 * (z .vectors - t .vectors)) x) (b .closes .0) (b .closes .3) in (
-      sym (b .joined) ∙ ap (λ (x : List ℕ). bytesAfter (b .fresh) (b .calls) ++ x) given ∙ w .1 ∙ ap (receivedVectors (editionOf edition)) (b .whole),
-      w .0 ∙ ap (summaryOf (editionOf edition)) (b .whole),
+as-one edition line bytes last b = (bytes-one edition line bytes last b, summary-one edition line bytes last b)
+
+pub whole : Whole
+whole edition line bytes last b room room′ one q enough =
+    let few : length line ≤ 825000 = subst (λ (l : List ℕ). length l ≤ 825000) (b .whole) (of-calls edition line bytes last b .2) in
+    let y = passes edition line room (known edition (b .fresh) (b .begins) .0) few enough in (
+      q .0 ∙ sym (y .0) ∙ ap received (sym (summary-one edition line bytes last b)),
+      q .1 ∙ sym (y .1) ∙ ap (λ (x : List ℕ). atStart x room) (sym (bytes-one edition line bytes last b)),
+      added-one edition line bytes last b,
     )
 
 -- ---- what a line leads to is never refused with 10

@@ -104,19 +104,6 @@ unfoldable pub addedAfter : List Made → Added
 addedAfter [] = noneAdded
 addedAfter (m ∷ ms) = plusAdded (m .reply .added) (addedAfter ms)
 
--- Once a closing call is accepted, after any calls from a fresh state: its summary, all the vectors joined and what was added are those of
--- one call of `receive` over the bytes that were taken, in any room that it takes.
-abbrev pub Whole : Type 0
-Whole =
-    (edition : ℕ) (s : State) → beginAnswer edition ≡ begun s
-    → (ms : List Made) → Follow s ms
-    → (room room′ : List ℕ) (r : Reply) → Replies (closeCall (stateAfter s ms) room) r room′
-    → (last : Summary) → answerOf (r .answer) ≡ received last
-    → (wide wide′ : List ℕ) (one : Received) → Receives edition (lineAfter ms) wide one wide′ → 10 * (8 * length (lineAfter ms) / 66) ≤ length wide
-    → (answerOf one ≡ received last)
-    × (wide′ ≡ atStart (bytesAfter s ms ++ givenBy (stateAfter s ms) r room′) wide)
-    × (plusAdded (addedAfter ms) (r .added) ≡ addedIn last)
-
 -- A line in bursts: a fresh state, any calls, and an accepted closing call; of them all, the line bytes that were taken, the vectors' bytes
 -- joined, and the last summary
 pub record InBursts (edition : ℕ) (line bytes : List ℕ) (last : Summary) : Type 0 where
@@ -132,11 +119,18 @@ pub record InBursts (edition : ℕ) (line bytes : List ℕ) (last : Summary) : T
   pub whole : lineAfter calls ≡ line
   pub joined : bytesAfter fresh calls ++ givenBy (stateAfter fresh calls) reply left ≡ bytes
 
--- "Demands 2 and 3 are read over the joined line": what they say of a line's vectors and of its summary holds in bursts
+-- the vectors and the last summary are those of the joined line; so what "Demands 2 and 3" say of them, "read over the joined line", holds
 abbrev pub AsOne : Type 0
 AsOne =
     (edition : ℕ) (line bytes : List ℕ) (last : Summary) → InBursts edition line bytes last
     → (bytes ≡ receivedVectors (editionOf edition) line) × (last ≡ summaryOf (editionOf edition) line)
+
+-- and of one call of `receive` over it, in any room that it takes; what the calls added is what its summary counts
+abbrev pub Whole : Type 0
+Whole =
+    (edition : ℕ) (line bytes : List ℕ) (last : Summary) (b : InBursts edition line bytes last)
+    → (room room′ : List ℕ) (one : Received) → Receives edition line room one room′ → 10 * (8 * length line / 66) ≤ length room
+    → (answerOf one ≡ received last) × (room′ ≡ atStart bytes room) × (plusAdded (addedAfter (b .calls)) (b .reply .added) ≡ addedIn last)
 
 -- "a handed-in state .. and given for nothing else": what a fresh state leads to is never refused with 10, and has its edition
 abbrev pub NeverBad : Type 0

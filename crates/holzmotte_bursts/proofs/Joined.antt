@@ -272,16 +272,30 @@ module _ (edition : ℕ) (state counters : List ℕ) (ms : List Made) (w : Told 
   abbrev Z : State
   Z = Plain.stateAfter (stateIn state) (w .calls)
 
+  in-bursts : Plain.InBursts edition (lineAfter ms) (Plain.bytesAfter (stateIn state) (w .calls) ++ Plain.givenBy Z reply left) said
+  in-bursts =
+      record {
+        fresh = stateIn state;
+        begins = b;
+        calls = w .calls;
+        follow = w .follow;
+        room = vectors;
+        reply = reply;
+        left = left;
+        closes = subst (λ (x : State). Replies (closeCall x vectors) reply left) (w .end) (close-replies S vectors summary found v);
+        ends = refl;
+        whole = sym (w .line);
+        joined = refl;
+      }
+
   joined : (received one ≡ received said)
       × (room′ ≡ atStart (Plain.bytesAfter (stateIn state) (w .calls) ++ Plain.givenBy Z reply left) room)
       × (plusAdded (Plain.addedAfter (w .calls)) (closeAdded (stateIn S)) ≡ addedIn said)
+  unfolding in-bursts
   joined =
-      Calls.whole edition (stateIn state) b (w .calls) (w .follow) vectors left reply
-      (subst (λ (x : State). Replies (closeCall x vectors) reply left) (w .end) (close-replies S vectors summary found v))
-      said refl room room′ (Done one)
-      (subst (λ (x : List ℕ). Receives edition x room (Done one) room′) (w .line)
-      (Success.answer-is edition (lineAfter ms) room sum counters room′ sum′ counters″ q, Success.room-is edition (lineAfter ms) room sum counters room′ sum′ counters″ q))
-      (subst (λ (x : List ℕ). 10 * (8 * length x / 66) ≤ length room) (w .line) (Success.room-lent edition (lineAfter ms) room sum counters room′ sum′ counters″ q))
+      Calls.whole edition (lineAfter ms) _ said in-bursts room room′ (Done one)
+      (Success.answer-is edition (lineAfter ms) room sum counters room′ sum′ counters″ q, Success.room-is edition (lineAfter ms) room sum counters room′ sum′ counters″ q)
+      (Success.room-lent edition (lineAfter ms) room sum counters room′ sum′ counters″ q)
 
   -- the vectors
   given : Plain.givenBy Z reply left ≡ givenBy S state′ vectors′
