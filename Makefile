@@ -6,7 +6,7 @@
 # make install    header, archive, shared library and pkg-config file, below $DESTDIR$PREFIX (PREFIX: /usr/local)
 # make uninstall  takes them away
 # make compare, make ctest, make examples, make rust: one outside check alone
-# make bench      the library beside a hand-written version, timed in one run
+# make bench      the library beside a hand-written version, and bursts beside one call, timed in one run
 # make soak       comparisons with the second program from a new seed, until stopped
 .PHONY: help test demo
 
