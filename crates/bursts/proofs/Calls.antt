@@ -1,44 +1,37 @@
 -- The theorem of bursts, over calls of which any may be refused. Assumes nothing.
-use Prim.Native.Nat.{ℕ, _+_, _-_, _*_, _/_, _≤_, _<_}
+use Prim.Native.Nat.{ℕ, _+_, _-_, _*_, _≤_, _<_}
 use mathlib.Core.Path.{_≡_, refl, sym, ap, ap₂, _∙_, subst}
-use mathlib.Core.Bool.{Bool, true, false, true≢false}
+use mathlib.Core.Bool.{true, false, true≢false}
 use mathlib.Core.List.{List, [], _∷_, _++_, append-assoc, append-nil}
 use native.Mathlib.Omega.{arith}
 use lib.ListN.{length, take, drop, length-append}
 use lib.Seq.{take-at}
-use borrow.Author.Tests.{ltb-false, le-ltb, lt-ltb}
-use Rattle.refusals.specs.First.{Verdict, accepted, refused, first, byVerdict}
+use borrow.Author.Tests.{ltb-false}
+use Rattle.refusals.specs.First.{Verdict, accepted, refused, byVerdict}
 use Rattle.refusals.proofs.Laws.{passed}
 use Rattle.block.specs.Block.{editionOf, editionCheck}
-use Rattle.block.specs.declared.Edition.{Edition}
 use Rattle.bits.specs.Bits.{lineBits}
-use Rattle.diagrams.specs.Diagram.{stateNumber}
 use Rattle.diagrams.specs.declared.State.the-variants.{Init}
 use Rattle.receiving.specs.Machine.{Feed}
-use Rattle.receiving.specs.Receive.{Judged, judge, judgedAlone, countsOf, handedOf, runOf, judgedOf, receivedVectors}
-use Rattle.receiving.specs.Parts.{bytesOf, noCounts, plus, noneHanded, plusHanded}
+use Rattle.receiving.specs.Receive.{judgedAlone, runOf, judgedOf, receivedVectors}
+use Rattle.receiving.specs.Parts.{bytesOf}
 use Rattle.receiving.specs.Counted.{Within, HandedWithin}
-use Rattle.receiving.specs.Answer.{ReceiveAnswer, received, summaryOf, answerOf, Receives}
+use Rattle.receiving.specs.Answer.{ReceiveAnswer, received, summaryOf, answerOf}
 use Rattle.receiving.specs.Answer as Answer
-use Rattle.receiving.specs.declared.Link.{Link}
-use Rattle.receiving.specs.declared.Counts.{Counts}
-use Rattle.receiving.specs.declared.Handed.{Handed}
 use Rattle.receiving.specs.declared.Summary.{Summary}
-use Rattle.receiving.specs.declared.Received.{Received}
 use Rattle.receiving.proofs.Count.{tested-few}
 use Rattle.receiving.proofs.Counted.{counts-few, handed-few}
 use Rattle.receiving.proofs.Settle.{judge-length, settle-count}
 use Rattle.receiving.proofs.Verdict.{passes}
 use Rattle.bursts.specs.declared.State.{State}
 use Rattle.bursts.specs.declared.Added.{Added}
-use Rattle.bursts.specs.declared.Reply.{Reply}
-use Rattle.bursts.specs.Meaning.{states, linkIn, feedIn, diagramIn, heldIn}
-use Rattle.bursts.specs.Judging.{badState, roomFor, burstChecks, burstVerdict}
-use Rattle.bursts.specs.Burst.{stateFresh, BeginAnswer, begun, beginAnswer, settledFrom, burstBytes, burstAdded, burstState, closeJudged, closeAdded, closeState, summaryIn, Called, refuses, atStart, burstCall, closeCall, Replies}
+use Rattle.bursts.specs.Meaning.{states, linkIn, feedIn}
+use Rattle.bursts.specs.Judging.{badState, burstVerdict}
+use Rattle.bursts.specs.Burst.{stateFresh, begun, beginAnswer, settledFrom, burstBytes, burstState, closeJudged, closeAdded, closeState, summaryIn, Called, refuses, atStart, burstCall, closeCall, Replies}
 use Rattle.bursts.specs.Burst as Burst
-use Rattle.bursts.specs.Joined.{plusAdded, noneAdded, addedIn, Call, burst, close, callOf, Made, Follow, takenOf, givenBy, stateAfter, lineAfter, bytesAfter, addedAfter, Whole, InBursts, AsOne, NeverBad, Accepts}
+use Rattle.bursts.specs.Joined.{plusAdded, addedIn, Call, burst, close, callOf, Made, Follow, takenOf, givenBy, stateAfter, lineAfter, bytesAfter, addedAfter, Whole, InBursts, AsOne, NeverBad, Accepts}
 use Rattle.bursts.proofs.Orderly.{Orderly, orderly}
-use Rattle.bursts.proofs.Checks.{Fair, Passed, passes-ten, passed-all, all-passed}
+use Rattle.bursts.proofs.Checks.{Fair, passes-ten, passed-all, all-passed}
 use Rattle.bursts.proofs.Going.{bytes-tens, close-tens}
 use Rattle.bursts.proofs.Sums.{sums, added-assoc, added-none, added-first, burst-sums, close-sums}
 use Rattle.bursts.proofs.Reached.{At, σ, at-first, at-few, at-next, at-count, at-handed, at-bytes, at-summary}

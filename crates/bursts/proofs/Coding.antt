@@ -1,5 +1,5 @@
 -- The numbers of carried bits and of a held block, as the code works them out. Assumes nothing.
-use Prim.Native.Nat.{ℕ, suc, _+_, _-_, _*_, _/_, _%_, _^_, _≤_, _<_}
+use Prim.Native.Nat.{ℕ, _+_, _-_, _*_, _/_, _%_, _^_, _≤_, _<_}
 use mathlib.Core.Path.{_≡_, refl, sym, ap, ap₂, _∙_, subst}
 use mathlib.Core.Bool.{Bool, true, false, cond}
 use mathlib.Core.List.{List, [], _∷_}
@@ -7,10 +7,10 @@ use native.Mathlib.Omega.{arith}
 use native.Mathlib.Nat.{mod-lt}
 use lib.Dec.{ltb}
 use lib.Pow.{pow-add, pow-mono, pow-pos, shl-exact}
-use lib.ListN.{length, getD, List·getD-eq-default}
+use lib.ListN.{getD, List·getD-eq-default}
 use borrow.Author.Tests.{lt-ltb, le-ltb}
-use Rattle.bits.specs.Bits.{bit, number, listed}
-use Rattle.bits.proofs.Laws.{by-lt, bit-mod, bit-below, bit-above, bit-high, is-number, two}
+use Rattle.bits.specs.Bits.{bit, listed}
+use Rattle.bits.proofs.Laws.{by-lt, bit-mod, bit-below, bit-above, bit-high, is-number}
 use Rattle.bits.proofs.Lists.{listed-at, listed-same, length-listed}
 use Rattle.block.specs.Block.{twoWords, kindIn, good}
 use Rattle.block.specs.declared.Edition.{Edition}
@@ -23,7 +23,7 @@ use Rattle.receiving.specs.Machine.{Tested, headerOf, payloadOf}
 use Rattle.receiving.specs.Loop.{testedIn}
 use Rattle.receiving.specs.declared.Held.{Held}
 use Rattle.bursts.specs.declared.Kept.{Kept}
-use Rattle.bursts.specs.Meaning.{bitsIn, carriedFor, kindNumber, kindBy, fiveBytes, vectorIn, blockIn, keptFor, haveFor}
+use Rattle.bursts.specs.Meaning.{bitsIn, carriedFor, kindNumber, kindBy, blockIn, keptFor, haveFor}
 
 -- ---- stray bits
 

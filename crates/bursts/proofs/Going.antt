@@ -1,8 +1,8 @@
 -- An accepted burst and an accepted closing call, from the receiver that the state means; and a refused one. Assumes nothing.
-use Prim.Native.Nat.{ℕ, _+_, _*_, _/_, _≤_, _<_}
+use Prim.Native.Nat.{ℕ, _+_, _*_, _/_, _≤_}
 use mathlib.Core.Path.{_≡_, refl, sym, ap, ap₂, _∙_, subst}
 use mathlib.Core.Bool.{Bool, true, false, cond}
-use mathlib.Core.List.{List, [], _∷_, _++_}
+use mathlib.Core.List.{List, [], _++_}
 use native.Mathlib.Omega.{arith}
 use native.Mathlib.Nat.{zero-add}
 use lib.ListN.{length, take, drop, length-append, length-drop, take-append-drop}
@@ -21,21 +21,19 @@ use Rattle.receiving.specs.Loop as Loop
 use Rattle.receiving.specs.Loop.{Ends, written, heldBytes, heldHanded, heldAlone}
 use Rattle.receiving.specs.Answer.{received, answerOf}
 use Rattle.receiving.specs.Answer as Answer
-use Rattle.receiving.specs.declared.Link.{Link}
 use Rattle.receiving.specs.declared.Counts.{Counts}
 use Rattle.receiving.specs.declared.Handed.{Handed}
 use Rattle.receiving.specs.declared.Receiver.{Receiver}
 use Rattle.receiving.specs.declared.Progress.{Progress}
-use Rattle.receiving.proofs.Each.{Each, each-append}
-use Rattle.receiving.proofs.Count.{Ten, tested-bits, tens-run}
+use Rattle.receiving.proofs.Each.{each-append}
+use Rattle.receiving.proofs.Count.{tested-bits, tens-run}
 use Rattle.receiving.proofs.Counted.{hand-first, counts-few, handed-few, within-wide, handed-wide}
 use Rattle.receiving.proofs.Settle.{settle-count, settle-tens, judge-length, judge-tens, last-bytes, alone-held, handed-held}
 use Rattle.bursts.specs.declared.State.{State}
-use Rattle.bursts.specs.declared.Added.{Added}
 use Rattle.bursts.specs.declared.Kept.{Kept}
 use Rattle.bursts.specs.declared.Reply.{Reply}
 use Rattle.bursts.specs.Meaning.{feedIn, diagramIn, heldBy, heldIn, carriedFor, keptFor, haveFor}
-use Rattle.bursts.specs.Judging.{roomFor, burstVerdict}
+use Rattle.bursts.specs.Judging.{burstVerdict}
 use Rattle.bursts.specs.Burst.{runFrom, settledFrom, burstBytes, burstAdded, burstState, closeJudged, closeAdded, closeState, summaryIn, refuses, atStart, burstCall, closeCall, Replies}
 use Rattle.bursts.specs.Coded.{Means, Fits, progressed}
 use Rattle.bursts.proofs.Storing.{bits-count, held-tens, few-in}

@@ -1,14 +1,10 @@
 -- The theorem of bursts, over the definitions. Assumes nothing.
 use Prim.Native.Nat.{ℕ}
-use mathlib.Core.Path.{_≡_, refl, sym, ap, ap₂, _∙_}
+use mathlib.Core.Path.{_≡_, sym, ap, _∙_}
 use mathlib.Core.List.{List, [], _∷_, _++_, append-assoc, append-nil, flatten}
-use Rattle.block.specs.Block.{editionOf}
-use Rattle.receiving.specs.Receive.{judgedAlone}
-use Rattle.receiving.specs.Answer.{summaryOf}
-use Rattle.receiving.specs.declared.Summary.{Summary}
 use Rattle.bursts.specs.declared.State.{State}
 use Rattle.bursts.specs.declared.Added.{Added}
-use Rattle.bursts.specs.Burst.{stateFresh, burstBytes, burstState, closeJudged, closeAdded, closeState, summaryIn}
+use Rattle.bursts.specs.Burst.{stateFresh, burstBytes, burstState, closeAdded, closeState}
 use Rattle.bursts.specs.Joined.{plusAdded, addedIn, stateOver, bytesOver, addedOver, Cut}
 use Rattle.bursts.proofs.Sums.{sums, added-first, close-sums, over-sums}
 use Rattle.bursts.proofs.Reached.{At, at-first, at-next, at-bytes, at-summary}

@@ -5,8 +5,8 @@ use mathlib.Core.Bool.{Bool, true, false, not, _&&_, _||_}
 use mathlib.Core.List.{List}
 use native.Mathlib.Omega.{arith}
 use lib.Dec.{leb}
-use Rattle.diagrams.specs.Lock.{lockFresh, lockOf, slipsOf, countedOf, invalidOf}
-use Rattle.diagrams.specs.Rate.{rateFresh, rateOf, windowOf}
+use Rattle.diagrams.specs.Lock.{lockOf, slipsOf, countedOf, invalidOf}
+use Rattle.diagrams.specs.Rate.{rateFresh, rateOf}
 use Rattle.diagrams.specs.declared.Lock.{Lock}
 use Rattle.diagrams.specs.declared.Rate.{Rate}
 use Rattle.block.specs.declared.Edition.{Edition}

@@ -11,7 +11,7 @@ use Rattle.diagrams.specs.Diagram.{diagramOf, follows}
 use Rattle.diagrams.specs.declared.State.{State}
 use Rattle.diagrams.specs.declared.State.the-variants.{Init}
 use Rattle.receiving.specs.Machine.{Tested}
-use Rattle.receiving.specs.Receive.{letsEnd, ends, stateOf, Judged, judge, answer, isTerminate, lastIs, judgedAlone, howMany, decodes, begins, replaces, handedOf}
+use Rattle.receiving.specs.Receive.{letsEnd, ends, stateOf, Judged, judge, answer, lastIs, judgedAlone, howMany, decodes, begins, replaces, handedOf}
 use Rattle.receiving.specs.Parts.{Settled, settle, bytesOf}
 
 -- a block without them

@@ -2,16 +2,16 @@
 use Prim.Native.Nat.{ℕ, zero, suc, _+_, _-_, _*_, _/_, _%_, _^_, _≤_, _<_}
 use mathlib.Core.Path.{_≡_, refl, sym, ap, ap₂, _∙_, subst}
 use mathlib.Core.Bool.{Bool, true, false, cond}
-use mathlib.Core.List.{List, [], _∷_, _++_}
+use mathlib.Core.List.{List, [], _∷_}
 use native.Mathlib.Omega.{arith}
 use lib.Dec.{ltb, lit<}
 use lib.ListN.{length, getD, length-append, List·getD-eq-default}
 use borrow.Author.Tests.{lt-ltb, le-ltb, eqb-false}
-use Rattle.bits.specs.Bits.{bit, number, listed, lineBits}
+use Rattle.bits.specs.Bits.{bit, listed, lineBits}
 use Rattle.bits.proofs.Laws.{Words, none, more, by-lt, bit-lt, bit-number}
 use Rattle.bits.proofs.Lists.{length-listed, listed-at, listed-same, length-lineBits, lineBits-at, lineBit-lt, words, words-lt, words-append}
 use Rattle.scrambler.specs.Scrambler.{descrambled}
-use Rattle.block.specs.Block.{decoded, classOf, kindIn, good}
+use Rattle.block.specs.Block.{classOf, kindIn, good}
 use Rattle.block.specs.declared.Edition.{Edition}
 use Rattle.block.specs.declared.Edition.the-variants.{Old, New}
 use Rattle.block.specs.declared.Kind.{Kind}
@@ -22,7 +22,7 @@ use Rattle.block.proofs.Reading.{Below, below-at, decoded-length, decoded-byte}
 use Rattle.block.proofs.Classes.{kind-good}
 use Rattle.block.proofs.OldKinds.{old-kind}
 use Rattle.carrying.specs.declared.Carried.{Carried}
-use Rattle.diagrams.specs.Diagram.{stateNumber, afterIdle, afterData, afterError, afterLow, diagramOf}
+use Rattle.diagrams.specs.Diagram.{stateNumber, afterIdle, afterData, afterError, diagramOf}
 use Rattle.diagrams.specs.declared.State as Diagram
 use Rattle.diagrams.specs.declared.State.the-variants.{Init, Control, Data, Terminate, Error, LowPower}
 use Rattle.receiving.specs.Machine.{Tested, Feed, run, feed, fills, linkOf, testedOf}
@@ -33,8 +33,8 @@ use Rattle.receiving.proofs.Each.{Each, run-gives}
 use Rattle.receiving.proofs.Each as Each
 use Rattle.receiving.proofs.Count.{Ten}
 use Rattle.bursts.specs.declared.Kept.{Kept}
-use Rattle.bursts.specs.Meaning.{bitsIn, carriedFor, states, diagramBy, kinds, kindNumber, kindBy, fiveBytes, vectorIn, heldBy, keptFor, haveFor}
-use Rattle.bursts.proofs.Plain.{plain, plains}
+use Rattle.bursts.specs.Meaning.{bitsIn, carriedFor, states, diagramBy, kindNumber, kindBy, fiveBytes, vectorIn, heldBy, keptFor, haveFor}
+use Rattle.bursts.proofs.Plain.{plains}
 
 -- ---- carried bits
 

@@ -1,15 +1,15 @@
 -- What calls add adds up: the counts of a state are those of the state before it, and what the call added. Assumes nothing.
-use Prim.Native.Nat.{ℕ, _+_}
+use Prim.Native.Nat.{ℕ}
 use mathlib.Core.Path.{_≡_, refl, sym, ap, _∙_}
 use mathlib.Core.List.{List, [], _∷_}
 use native.Mathlib.Nat.{add-assoc, add-zero}
-use Rattle.receiving.specs.Parts.{noCounts, plus, noneHanded, plusHanded}
+use Rattle.receiving.specs.Parts.{noCounts, plus, plusHanded}
 use Rattle.receiving.specs.declared.Counts.{Counts}
 use Rattle.receiving.specs.declared.Handed.{Handed}
 use Rattle.receiving.proofs.Counted.{count-first, hand-first}
 use Rattle.bursts.specs.declared.State.{State}
 use Rattle.bursts.specs.declared.Added.{Added}
-use Rattle.bursts.specs.Burst.{stateFresh, burstAdded, burstState, closeAdded, closeState}
+use Rattle.bursts.specs.Burst.{burstAdded, burstState, closeAdded, closeState}
 use Rattle.bursts.specs.Joined.{plusAdded, noneAdded, stateOver, addedOver}
 
 -- the counts of a state

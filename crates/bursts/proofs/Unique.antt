@@ -12,7 +12,7 @@ use Rattle.bursts.specs.declared.State.{State}
 use Rattle.bursts.specs.declared.Reply.{Reply}
 use Rattle.bursts.specs.declared.Begun.{Begun}
 use Rattle.bursts.specs.declared.Begun.the-variants.{Fresh, Refused}
-use Rattle.bursts.specs.Burst.{BeginAnswer, begun, refused, begunOf, Begins, Called, burstCall, closeCall, Replies}
+use Rattle.bursts.specs.Burst.{begun, refused, begunOf, Begins, Called, burstCall, closeCall, Replies}
 
 same-state : (a b : State) → begun a ≡ begun b → a ≡ b
 same-state a b e = cc

@@ -17,7 +17,7 @@ use Rattle.bursts.specs.declared.State.{State}
 use Rattle.bursts.specs.declared.Added.{Added}
 use Rattle.bursts.specs.declared.Reply.{Reply}
 use Rattle.bursts.specs.Judging.{badState, roomFor, burstVerdict}
-use Rattle.bursts.specs.Burst.{stateFresh, BeginAnswer, begun, beginAnswer, burstBytes, burstAdded, burstState, closeJudged, closeAdded, closeState, summaryIn, Called, atStart, burstCall, closeCall, Replies}
+use Rattle.bursts.specs.Burst.{stateFresh, begun, beginAnswer, burstBytes, burstAdded, burstState, closeJudged, closeAdded, closeState, summaryIn, Called, atStart, burstCall, closeCall, Replies}
 
 -- what two calls added
 abbrev pub plusAdded : Added → Added → Added

@@ -1,10 +1,7 @@
 -- The demands of a line that arrives in bursts. Assumes nothing.
-use Prim.Native.Nat.{ℕ}
-use mathlib.Core.Path.{_≡_, sym, _∙_, subst}
-use mathlib.Core.List.{List}
+use mathlib.Core.Path.{sym, _∙_, subst}
 use lib.ListN.{length}
 use Rattle.sending.specs.Send as Send
-use Rattle.receiving.specs.declared.Summary.{Summary}
 use Rattle.bursts.specs.Judging.{burstVerdict}
 use Rattle.bursts.specs.Burst.{beginAnswer, burstCall, closeCall}
 use Rattle.bursts.proofs.Calls.{as-one}

@@ -1,20 +1,17 @@
 -- The kinds of the old edition are those of the formats, and LI is none of them. Assumes nothing.
-use mathlib.Core.Path.{_≡_, refl, _∙_, ap, sym, subst}
+use mathlib.Core.Path.{_≡_, refl, _∙_, ap, subst}
 use mathlib.Core.Bool.{Bool, true, false, cond, not, _&&_, _||_}
 use mathlib.Core.List.{List, [], _∷_}
 use Prim.Native.Nat.{ℕ, _%_, _^_}
-use native.Mathlib.Omega.{arith}
-use lib.Dec.{T, T-not, lit<, eqb, eqb-refl}
-use lib.ListN.{getD}
+use lib.Dec.{T, T-not, eqb}
 use Rattle.block.specs.declared.Edition.the-variants.{Old}
 use Rattle.block.specs.declared.Kind.{Kind}
 use Rattle.block.specs.declared.Kind.the-variants.{D, C, S, T as T′, E, LI}
 use Rattle.block.specs.declared.Reason.the-variants.{Header, BlockType, ControlCode, SetCode}
-use Rattle.block.specs.declared.Class.{Class}
 use Rattle.block.specs.declared.Class.the-variants.{Bad}
-use Rattle.block.specs.Block.{Slot, Control, Calm, Data, Set, Start, Terminate, Format, controlBlocks, controls, sets, without, octetIn, octetOf, controlBit, flagOf, laneOf, formatOf, vectorOf, lowPowerVector, kindFor, some, says, good, classOf, kindIn, carries, payloadOf, Carrier, block, carrierBy, carrier, carrierKind}
-use Rattle.block.specs.Rows.{fieldAt, formats}
-use Rattle.block.proofs.Tests.{both-left, both-right, all, every, is-true}
+use Rattle.block.specs.Block.{Format, controlBlocks, formatOf, vectorOf, lowPowerVector, kindFor, some, says, good, classOf, kindIn, carries, payloadOf, block, carrierBy, carrier, carrierKind}
+use Rattle.block.specs.Rows.{formats}
+use Rattle.block.proofs.Tests.{both-left, both-right, every, is-true}
 use Rattle.block.proofs.Reading.{plain-kind}
 use Rattle.block.proofs.OldKinds.{not-low, isLow, other, old-kind}
 use Rattle.editions.specs.Before.{classBefore, carrierAmong, carrierBefore, kindBefore}

@@ -1,5 +1,5 @@
 -- Receiving through C, case by case: a slice too short, an answer, a refusal. Assumes nothing.
-use Prim.Native.Nat.{ℕ, _+_, _*_, _/_, _≤_, _<_}
+use Prim.Native.Nat.{ℕ, _+_, _*_, _/_, _≤_}
 use mathlib.Core.Path.{_≡_, refl, sym, ap, ap₂, _∙_}
 use mathlib.Core.Bool.{Bool, true, false, cond, _||_, true≢false}
 use mathlib.Core.List.{List, [], _∷_, _++_}
@@ -15,9 +15,9 @@ use Rattle.receiving.specs.Answer.{ReceiveAnswer, received, receiveChecks, summ
 use Rattle.receiving.specs.Answer as Answer
 use Rattle.receiving.specs.declared.Summary.{Summary}
 use Rattle.receiving.specs.declared.Received.{Received}
-use Rattle.counters.specs.Counters.{updated, countersAfter}
+use Rattle.counters.specs.Counters.{countersAfter}
 use Rattle.counters.specs.declared.Counters.{Counters}
-use Rattle.slices.specs.Slices.{resultOf, after, wordBytes, flagWord, tooShort, summaryWith, countersIn, countersWith, receiveLength, shortSlice, receiveWords}
+use Rattle.slices.specs.Slices.{resultOf, wordBytes, tooShort, summaryWith, countersIn, countersWith, receiveLength, shortSlice, receiveWords}
 use Rattle.holzmotte.specs.Boundary.{receiveVerdict, receiveResult, receiveVectors, receiveSummary, receiveCounters, ReceivesThroughC}
 use Rattle.slices.proofs.Laws.{first-after, shortOf, summary-long}
 

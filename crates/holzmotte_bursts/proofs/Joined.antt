@@ -1,5 +1,5 @@
 -- The theorem of bursts through C: a call through C is a call of `bursts` with the state that the slice holds. Assumes nothing.
-use Prim.Native.Nat.{ℕ, _+_, _-_, _*_, _/_, _≤_}
+use Prim.Native.Nat.{ℕ, _+_, _-_, _*_, _≤_}
 use mathlib.Core.Path.{_≡_, refl, sym, ap, ap₂, _∙_, subst}
 use mathlib.Core.Bool.{Bool, false, cond}
 use mathlib.Core.List.{List, [], _∷_, _++_}
@@ -12,7 +12,7 @@ use Rattle.refusals.specs.First.{Verdict, accepted, refused, first}
 use Rattle.block.specs.Block.{editionOf}
 use Rattle.receiving.specs.Receive.{judgedAlone}
 use Rattle.receiving.specs.Parts.{bytesOf}
-use Rattle.receiving.specs.Answer.{ReceiveAnswer, received, summaryOf, answerOf, Receives}
+use Rattle.receiving.specs.Answer.{ReceiveAnswer, received, summaryOf, answerOf}
 use Rattle.receiving.specs.declared.Summary.{Summary}
 use Rattle.receiving.specs.declared.Received.the-variants.{Done}
 use Rattle.counters.specs.Counters.{updated}

@@ -1,10 +1,9 @@
 -- What a call leaves in the slices, case by case. Assumes nothing.
 use Prim.Native.Nat.{ℕ, _+_, _*_, _≤_, _<_}
-use mathlib.Core.Path.{_≡_, refl, sym, ap, ap₂, _∙_, subst}
+use mathlib.Core.Path.{_≡_, refl, sym, ap, _∙_, subst}
 use mathlib.Core.Bool.{Bool, true, false, _||_, true≢false}
-use mathlib.Core.List.{List, [], _∷_, _++_}
+use mathlib.Core.List.{List, _++_}
 use native.Mathlib.Omega.{arith}
-use native.Mathlib.Nat.{add-zero}
 use lib.ListN.{length, drop, replicate}
 use Rattle.refusals.specs.First.{Verdict, accepted, refused, byVerdict}
 use Rattle.receiving.specs.Receive.{judgedAlone}
@@ -25,7 +24,7 @@ use Rattle.bursts.specs.declared.Reply.{Reply}
 use Rattle.bursts.specs.Judging.{burstVerdict}
 use Rattle.bursts.specs.Burst.{Called, refuses, burstState, closeJudged, closeState, summaryIn, burstDone, closeDone, burstCall, closeCall, Replies}
 use Rattle.stored.specs.Stored.{stateIn, storedIn}
-use Rattle.holzmotte_bursts.specs.Boundary.{verdict, Left, leaves, spares, burstLeft, closeLeft, Leaves}
+use Rattle.holzmotte_bursts.specs.Boundary.{verdict, leaves, spares, burstLeft, closeLeft, Leaves}
 use Rattle.holzmotte_bursts.specs.Coded.{Placed, LeftBy}
 use Rattle.holzmotte_bursts.proofs.Verdicts.{place-zero, short-state, short-slices, long-slices}
 

@@ -1,5 +1,5 @@
 -- The checks of a call through C: a state too short, a summary or counters too short, and else those of the call itself. Assumes nothing.
-use Prim.Native.Nat.{ℕ, _+_, _*_, _/_, _≤_, _<_}
+use Prim.Native.Nat.{ℕ, _+_, _*_, _≤_, _<_}
 use mathlib.Core.Path.{_≡_, refl, sym, ap, ap₂, _∙_}
 use mathlib.Core.Bool.{Bool, true, false}
 use mathlib.Core.List.{List, [], _∷_}
@@ -13,7 +13,7 @@ use Rattle.slices.specs.Slices.{resultOf, tooShort, shortSlice, after}
 use Rattle.slices.proofs.Laws.{first-after, skipped, Numbered, refusal-above, result-zero}
 use Rattle.bursts.specs.declared.State.{State}
 use Rattle.bursts.specs.Judging.{badState, roomFor, burstChecks, burstVerdict}
-use Rattle.bursts.specs.Burst.{stateFresh, BeginAnswer, begun, beginAnswer}
+use Rattle.bursts.specs.Burst.{stateFresh, begun, beginAnswer}
 use Rattle.bursts.specs.Burst as Burst
 use Rattle.stored.specs.Stored.{stateIn, storedIn}
 use Rattle.holzmotte_bursts.specs.Boundary.{beginVerdict, BeginsThroughC, verdict}

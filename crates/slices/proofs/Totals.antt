@@ -1,14 +1,10 @@
 -- The counters through C, call after call: what one call leaves is what the next one finds, and two calls in a row add up. Assumes nothing.
-use Prim.Native.Nat.{ℕ, zero, suc, _+_, _*_, _^_, _≤_, _<_, min}
-use mathlib.Core.Path.{_≡_, sym, ap, ap₂, _∙_}
-use mathlib.Core.List.{List, [], _∷_, _++_, append-assoc}
-use native.Mathlib.Nat.{le-of-suc-le-suc, not-suc-le-zero}
+use Prim.Native.Nat.{ℕ, _^_, _<_}
+use mathlib.Core.Path.{_≡_, ap, ap₂, _∙_}
+use mathlib.Core.List.{List, _++_}
 use native.Mathlib.Omega.{arith}
-use lib.ListN.{length, getD, drop}
+use lib.ListN.{getD, drop}
 use lib.Seq.{drop-at}
-use Rattle.bits.specs.Bits.{bit, number, streamBit, lineBit, cut}
-use Rattle.bits.proofs.Laws.{bit-lt, is-number, number-same, stream-cut, length-cut}
-use Rattle.bits.proofs.Lists.{stream-left, stream-right}
 use Rattle.receiving.specs.Parts.{plus, plusHanded}
 use Rattle.receiving.specs.declared.Counts.{Counts}
 use Rattle.receiving.specs.declared.Handed.{Handed}

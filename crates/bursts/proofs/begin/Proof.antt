@@ -1,6 +1,6 @@
 -- `bursts::begin` meets its contract. Assumes nothing.
 use Prim.Native.Nat.{ℕ, _≤_, _<_}
-use mathlib.Core.Path.{_≡_, refl, sym, ap, _∙_}
+use mathlib.Core.Path.{_≡_, _∙_}
 use mathlib.Core.Bool.{false}
 use mathlib.Core.List.{[]}
 use borrow.Author.Needs.{needs}
@@ -14,7 +14,7 @@ use Rattle.receiving.specs.declared.Counts.{Counts}
 use Rattle.receiving.specs.declared.Handed.{Handed}
 use Rattle.bursts.specs.declared.Kept.{Kept}
 use Rattle.bursts.specs.Meaning.{keptFor}
-use Rattle.bursts.specs.Burst.{BeginAnswer, begun, refused, stateFresh, beginAnswer}
+use Rattle.bursts.specs.Burst.{begun, refused, stateFresh, beginAnswer}
 use Rattle.bursts.proofs.begin.Statement.{statement}
 use Rattle.bursts.proofs.begin.Tie as tie
 

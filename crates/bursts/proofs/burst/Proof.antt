@@ -1,11 +1,9 @@
 -- `bursts::burst` meets its contract. A refusal by the checks; else one more part of the line. Assumes nothing.
-use mathlib.Core.Path.{_≡_, refl, sym, ap, _∙_}
+use mathlib.Core.Path.{sym, ap, _∙_}
 use borrow.Author.Needs.{needs}
 use denote.Ref.{now}
-use lib.ListN.{length}
 use Rattle.bursts.specs.Coded.{verdictOf}
-use Rattle.bursts.proofs.Checks.{fair}
-use Rattle.bursts.proofs.Going.{passed, fine, short, written-fits, next-fits, burst-is, burst-refused}
+use Rattle.bursts.proofs.Going.{passed, short, written-fits, next-fits, burst-is, burst-refused}
 use Rattle.bursts.proofs.burst.Statement.{statement}
 use Rattle.bursts.proofs.burst.Tie as tie
 

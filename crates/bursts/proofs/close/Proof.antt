@@ -1,11 +1,9 @@
 -- `bursts::close` meets its contract. A refusal by the checks; else the vector of the block that is held. Assumes nothing.
-use mathlib.Core.Path.{_≡_, refl, sym, ap, _∙_, subst}
+use mathlib.Core.Path.{_≡_, sym, ap, _∙_, subst}
 use mathlib.Core.Bool.{true}
 use mathlib.Core.List.{[]}
-use native.Mathlib.Omega.{arith}
 use borrow.Author.Needs.{needs}
 use denote.Ref.{now}
-use lib.ListN.{length}
 use Rattle.receiving.specs.Loop.{heldHanded}
 use Rattle.receiving.specs.Parts.{noneHanded}
 use Rattle.receiving.specs.Counted.{HandedWithin}

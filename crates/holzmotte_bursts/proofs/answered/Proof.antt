@@ -1,7 +1,6 @@
 -- `holzmotte_bursts::answered` meets its contract. By the answer. Assumes nothing.
-use mathlib.Core.Path.{refl, sym, _∙_}
+use mathlib.Core.Path.{refl}
 use denote.Ref.{now}
-use Rattle.receiving.specs.declared.Received.the-variants.{Done, Refused}
 use Rattle.holzmotte_bursts.proofs.Slices.{found-left, found-placed, put-is, added-to}
 use borrow.Author.Needs.{needs}
 use Rattle.holzmotte_bursts.proofs.answered.Statement.{statement}

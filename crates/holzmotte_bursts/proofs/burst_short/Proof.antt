@@ -1,5 +1,5 @@
 -- `holzmotte_bursts::burst_short` meets its contract. Assumes nothing.
-use mathlib.Core.Path.{refl, sym, ap, _∙_}
+use mathlib.Core.Path.{refl}
 use mathlib.Core.List.{[]}
 use denote.Ref.{now}
 use lib.ListN.{length}

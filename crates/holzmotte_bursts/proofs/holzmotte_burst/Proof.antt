@@ -1,5 +1,5 @@
 -- `holzmotte_bursts::holzmotte_burst` meets its contract. A state too short; a summary or counters too short; or the call itself. Assumes nothing.
-use mathlib.Core.Path.{refl, sym, ap, _∙_}
+use mathlib.Core.Path.{sym, _∙_}
 use denote.Ref.{now}
 use lib.ListN.{length}
 use Rattle.holzmotte_bursts.proofs.Verdicts.{never-there}

@@ -1,7 +1,6 @@
 -- `bursts::meaning::diagram_by` meets its contract. By the number. Assumes nothing.
-use mathlib.Core.Path.{_≡_, refl, sym}
+use mathlib.Core.Path.{_≡_, refl}
 use Prim.Native.Nat.{ℕ, zero, suc}
-use native.Mathlib.Omega.{arith}
 use Rattle.diagrams.specs.declared.State.the-variants.{Init}
 use Rattle.bursts.specs.Meaning.{diagramBy}
 use Rattle.bursts.proofs.meaning.diagram_by.Statement.{statement}

@@ -1,13 +1,11 @@
 -- `bursts::meaning::kind_by` meets its contract. By the number, and then by the edition. Assumes nothing.
-use mathlib.Core.Path.{_≡_, refl, sym, ap, _∙_}
+use mathlib.Core.Path.{_≡_, refl, sym}
 use Prim.Native.Nat.{ℕ, zero, suc}
-use native.Mathlib.Omega.{arith}
 use borrow.Author.Tests.{eq-eqb, ne-eqb}
 use Rattle.block.specs.Block.{editionOf}
 use Rattle.block.specs.declared.Edition.{Edition}
 use Rattle.block.specs.declared.Edition.the-variants.{Old, New}
-use Rattle.block.specs.declared.Kind.{Kind}
-use Rattle.block.specs.declared.Kind.the-variants.{D, C, S, T, E, LI}
+use Rattle.block.specs.declared.Kind.the-variants.{D, C, S, T, E}
 use Rattle.bursts.specs.Meaning.{kindBy}
 use Rattle.bursts.proofs.meaning.kind_by.Statement.{statement}
 use Rattle.bursts.proofs.meaning.kind_by.Tie as tie

@@ -1,10 +1,8 @@
 -- `bursts::meaning::receiver_of` meets its contract. The numbers of an accepted state are in range. Assumes nothing.
-use Prim.Native.Nat.{ℕ}
-use mathlib.Core.Path.{ap, _∙_}
+use mathlib.Core.Path.{ap}
 use mathlib.Core.Bool.{cond}
-use mathlib.Core.List.{List, [], _∷_}
+use mathlib.Core.List.{[], _∷_}
 use borrow.Author.Needs.{needs}
-use Rattle.block.specs.declared.Edition.{Edition}
 use Rattle.receiving.specs.Machine.{Tested}
 use Rattle.receiving.specs.Loop as Loop
 use Rattle.bursts.specs.Meaning.{heldBy, feedIn}
