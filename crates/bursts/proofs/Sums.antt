@@ -3,10 +3,11 @@ use Prim.Native.Nat.{ℕ}
 use mathlib.Core.Path.{_≡_, refl, sym, ap, _∙_}
 use mathlib.Core.List.{List, [], _∷_}
 use native.Mathlib.Nat.{add-assoc, add-zero}
+use Rattle.receiving.specs.Receive.{howMany, countsOf}
 use Rattle.receiving.specs.Parts.{noCounts, plus, plusHanded}
 use Rattle.receiving.specs.declared.Counts.{Counts}
 use Rattle.receiving.specs.declared.Handed.{Handed}
-use Rattle.receiving.proofs.Counted.{count-first, hand-first}
+use Rattle.receiving.proofs.Counted.{count-end, count-first, hand-first}
 use Rattle.bursts.specs.declared.State.{State}
 use Rattle.bursts.specs.declared.Added.{Added}
 use Rattle.bursts.specs.Burst.{burstAdded, burstState, closeAdded, closeState}
@@ -37,15 +38,8 @@ added-assoc a b c =
     λ i. record { counts = counts-assoc (a .counts) (b .counts) (c .counts) i; handed = handed-assoc (a .handed) (b .handed) (c .handed) i }
 
 counts-none : (c : Counts) → plus c noCounts ≡ c
-counts-none c =
-    λ i. record {
-      tested = add-zero (c .tested) i;
-      slips = add-zero (c .slips) i;
-      headers = add-zero (c .headers) i;
-      types = add-zero (c .types) i;
-      codes = add-zero (c .codes) i;
-      sets = add-zero (c .sets) i;
-    }
+unfolding countsOf howMany
+counts-none c = count-end c
 
 pub added-none : (a : Added) → plusAdded a noneAdded ≡ a
 added-none a = λ i. record { counts = counts-none (a .counts) i; handed = record { begun = add-zero (a .handed .begun) i; replaced = add-zero (a .handed .replaced) i } }
