@@ -1,3 +1,4 @@
 pub mod Looking
+pub mod Quickly
 pub mod Rows
 pub mod Unique

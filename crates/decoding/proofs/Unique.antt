@@ -1,18 +1,27 @@
 -- Any two answers, and contents of lent memory, that meet a public function's promise are equal.
 use mathlib.Core.Path.{_≡_, _∙_, ap, sym}
+use mathlib.Core.Bool.{true, cond}
 use mathlib.Core.List.{List}
 use Prim.Native.Nat.{ℕ, _/_, _%_, _^_, _<_}
 use native.Mathlib.Omega.{arith}
+use lib.Bits.{bitAnd}
+use lib.Dec.{eqb}
 use lib.ListN.{getD}
 use lib.Pow.{shr-shr}
 use Rattle.block.specs.declared.Edition.{Edition}
+use Rattle.block.specs.declared.Edition.the-variants.{Old}
 use Rattle.block.specs.declared.Kind.{Kind}
 use Rattle.block.specs.declared.Class.{Class}
 use Rattle.block.specs.Block.{decoded, good, classOf, kindIn}
 use Rattle.tables.specs.Tables.{editionIn}
 use Rattle.decoding.specs.declared.Vector.{Vector}
 use Rattle.decoding.specs.declared.Decoded.{Decoded}
+use Rattle.decoding.specs.declared.QuickDecoded.{QuickDecoded}
+use Rattle.decoding.specs.declared.shapes.Shape.{Shape}
 use Rattle.decoding.specs.Vector.{vectorBytes}
+use Rattle.decoding.specs.Quickly.{Quickly}
+use Rattle.decoding.specs.Parts.{numberBy, Shapes}
+use Rattle.decoding.proofs.Quickly.{words, quickly}
 
 -- a word of 32 bits is known by its four bytes
 lanes-same : (a b : ℕ) → a < 2 ^ 32 → b < 2 ^ 32 → a % 2 ^ 8 ≡ b % 2 ^ 8 → a / 2 ^ 8 % 2 ^ 8 ≡ b / 2 ^ 8 % 2 ^ 8 → a / 2 ^ 16 % 2 ^ 8 ≡ b / 2 ^ 16 % 2 ^ 8
@@ -56,6 +65,28 @@ decode-unique t h x r r′ a b c d p q = λ i. record { class = class i; vector 
 
     vector : r .vector ≡ r′ .vector
     vector = vector-same (r .vector) (r′ .vector) a b c d (p .1 ∙ sym (q .1))
+
+-- `quick`: any two answers that are there
+pub quick-unique : (h x : ℕ) (r r′ : QuickDecoded) → r .vector .d0 < 2 ^ 32 → r .vector .d1 < 2 ^ 32 → r′ .vector .d0 < 2 ^ 32 → r′ .vector .d1 < 2 ^ 32
+    → r .there ≡ true → r′ .there ≡ true → Quickly h x r → Quickly h x r′ → r ≡ r′
+quick-unique h x r r′ a b c d t t′ p q = λ i. record { there = (t ∙ sym t′) i; class = class i; vector = vector i }
+  where
+    class : r .class ≡ r′ .class
+    class = p t Old .0 ∙ sym (q t′ Old .0)
+
+    vector : r .vector ≡ r′ .vector
+    vector = vector-same (r .vector) (r′ .vector) a b c d (p t Old .1 ∙ sym (q t′ Old .1))
+
+pub number-of-unique : (h x n n′ : ℕ) → n ≡ numberBy h x → n′ ≡ numberBy h x → n ≡ n′
+number-of-unique h x n n′ p q = p ∙ sym q
+
+-- `shape_of`: any two shapes of a block's number make the same of it where both take it
+pub shape-of-unique : (h x n : ℕ) (s s′ : Shape) → n ≡ cond (eqb h 2) 16 (cond (eqb h 1) (x % 16) 0) → Shapes n s → Shapes n s′
+    → eqb (bitAnd x (s .codes)) (s .first) ≡ true → eqb (bitAnd x (s′ .codes)) (s′ .first) ≡ true → (s .class ≡ s′ .class) × (words s x ≡ words s′ x)
+shape-of-unique h x n s s′ e p q t t′ =
+    let a = quickly h x n s e p t Old in
+    let b = quickly h x n s′ e q t′ Old in
+    (a .0 ∙ sym (b .0), a .1 ∙ sym (b .1))
 
 pub bytes-of-unique : (v : Vector) (r r′ : List ℕ) → r ≡ vectorBytes v → r′ ≡ vectorBytes v → r ≡ r′
 bytes-of-unique v r r′ p q = p ∙ sym q

@@ -1,8 +1,13 @@
 -- A reviewer can skip this file: what the private functions answer.
-use Prim.Native.Nat.{ℕ, _+_, _*_, _/_, _%_, _^_}
+use mathlib.Core.Path.{_≡_}
+use mathlib.Core.Bool.{Bool, cond, not, _&&_, _||_}
+use Prim.Native.Nat.{ℕ, _+_, _-_, _*_, _/_, _%_, _^_, _<_}
+use lib.Dec.{T, eqb}
 use Rattle.block.specs.declared.Edition.{Edition}
-use Rattle.block.specs.Block.{octetAt}
-use Rattle.block.specs.Rows.{row}
+use Rattle.block.specs.declared.Edition.the-variants.{Old, New}
+use Rattle.block.specs.Block.{Slot, Control, Calm, Data, Set, Start, Terminate, Format, octetOf, octetAt, flagsAt, good}
+use Rattle.block.specs.Rows.{width, fieldAt, placeAt, row, rowOf}
+use Rattle.decoding.specs.declared.shapes.Shape.{Shape}
 
 -- the octet of character p of a block of row r, not below 256 where its bits are not valid
 abbrev pub octetBy : Edition → ℕ → ℕ → ℕ → ℕ
@@ -18,3 +23,62 @@ overBy a b c d = a / 256 + b / 256 + c / 256 + d / 256
 
 abbrev pub badBy : ℕ → ℕ → ℕ → ℕ → ℕ
 badBy a b c d = a / 256 % 2 + b / 256 % 2 + c / 256 % 2 + d / 256 % 2
+
+-- ---- shapes
+
+-- the number of a block's shape: 16 for data, the low four bits of its type for a control block, 0 for any other header
+abbrev pub numberBy : ℕ → ℕ → ℕ
+numberBy h x = cond (eqb h 2) 16 (cond (eqb h 1) (x % 16) 0)
+
+-- byte p of a number
+abbrev pub byteAt : ℕ → ℕ → ℕ
+byteAt n p = n / 2 ^ (8 * p) % 2 ^ 8
+
+module _ (f : Format) (s : Shape) (p : ℕ) where
+  -- where the field of character p begins
+  abbrev pub begins : ℕ
+  begins = f .lead + placeAt (f .fields) p
+
+  -- a data octet stands the shift above its lane
+  abbrev pub suitsData : Bool
+  suitsData = eqb begins (8 * p + s .shift) && eqb (byteAt (s .lanes) p) 255 && eqb (byteAt (s .fixed) p) 0
+
+  -- the code of any other character is among those that are 0, and its octet is then the fixed one, in each edition
+  abbrev pub suitsCode : Slot → Bool
+  suitsCode k =
+      eqb (s .codes / 2 ^ begins % 2 ^ width k) (2 ^ width k - 1) && eqb (s .first / 2 ^ begins % 2 ^ width k) 0
+      && eqb (byteAt (s .lanes) p) 0
+      && eqb (octetOf Old k 0) (byteAt (s .fixed) p)
+      && eqb (octetOf New k 0) (byteAt (s .fixed) p)
+
+  abbrev pub suitsSlot : Slot → Bool
+  suitsSlot Data = suitsData
+  suitsSlot Control = suitsCode Control
+  suitsSlot Calm = suitsCode Calm
+  suitsSlot Set = suitsCode Set
+  suitsSlot Start = suitsCode Start
+  suitsSlot Terminate = suitsCode Terminate
+
+  abbrev pub suitsAt : Bool
+  suitsAt = suitsSlot (fieldAt (f .fields) p .slot)
+
+-- a shape is that of a format: its control bytes, its class, that it is not low power idle, and each character
+pub record OfFormat (f : Format) (s : Shape) : Type 0 where
+  pub low : s .c0 ≡ flagsAt (f .fields) 0
+  pub high : s .c1 ≡ flagsAt (f .fields) 4
+  pub class : s .class ≡ good (f .kind)
+  pub awake : T (not (eqb (f .type) 0x1e) || eqb (byteAt (s .fixed) 0) 7 && eqb (byteAt (s .lanes) 0) 0)
+  pub characters : (p : ℕ) → p < 8 → T (suitsAt f s p)
+
+-- a control block is known by its type
+pub record OfType (s : Shape) : Type 0 where
+  pub inside : rowOf (s .first) < 16
+  pub whole : s .codes % 2 ^ 8 ≡ 2 ^ 8 - 1
+  pub byte : s .first < 2 ^ 8
+  pub format : OfFormat (row (rowOf (s .first))) s
+
+-- shape 16 is that of data, 1 to 15 are known by their types, and any other is of no block: no bits are ever 1
+pub data Shapes (n : ℕ) (s : Shape) : Type 0 where
+  none : s .codes ≡ 0 → s .first ≡ 1 → Shapes n s
+  plain : n ≡ 16 → OfFormat (row 0) s → Shapes n s
+  typed : 0 < n → n < 16 → OfType s → Shapes n s

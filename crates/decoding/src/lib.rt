@@ -6,10 +6,13 @@ ghost use Rattle.block.specs.Rows.{row};
 ghost use Rattle.tables.specs.Tables.{types, editionIn, LentToDecode};
 ghost use Rattle.decoding.specs.Vector.{vectorBytes};
 ghost use Rattle.decoding.specs.Parts.{octetBy, lanesBy, overBy, badBy};
+ghost use Rattle.decoding.specs.Quickly.{Quickly};
 use block::Class;
 use block::Edition;
 use block::Kind;
 use block::Reason;
+
+mod shapes;
 
 // A vector: two words, each a control byte and four lanes, lane 0 lowest.
 pub struct Vector {
@@ -184,6 +187,34 @@ pub fn decode(t: &[u16; 946], y: &[u8; 256], header: u64, payload: u64) -> Decod
         return bad(Reason::BlockType);
     }
     bad(Reason::Header)
+}
+
+// A block decoded at once, where all its codes are 0: whether that is so, its class and its vector. Those are idles, ordered sets, Starts,
+// Terminates and data, which are the same in both editions.
+pub struct QuickDecoded {
+    pub there: bool,
+    pub class: Class,
+    pub vector: Vector,
+}
+
+// A block with this header and payload, decoded at once.
+pub fn quick(header: u64, payload: u64) -> QuickDecoded
+    ensures { λ r. ⌜ Quickly header payload r ⌝ }
+{
+    let n = shapes::number_of(header, payload);
+    let s = shapes::shape_of(n);
+    let x = ((payload >> s.shift) & s.lanes) | s.fixed;
+    let class = s.class;
+    QuickDecoded {
+        there: payload & s.codes == s.first,
+        class: class,
+        vector: Vector {
+            c0: s.c0,
+            d0: (x % 4294967296) as u32,
+            c1: s.c1,
+            d1: (x / 4294967296) as u32,
+        },
+    }
 }
 
 // The ten bytes of a vector.
