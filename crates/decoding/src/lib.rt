@@ -203,7 +203,19 @@ pub fn decode(edition: Edition, header: u64, payload: u64) -> Decoded
         };
     }
     if header == 1 {
-        return decode_control(edition, payload);
+        // the fields one by one: the other answers then stay in registers
+        let d = decode_control(edition, payload);
+        let class = d.class;
+        let v = d.vector;
+        return Decoded {
+            class: class,
+            vector: Vector {
+                c0: v.c0,
+                d0: v.d0,
+                c1: v.c1,
+                d1: v.d1,
+            },
+        };
     }
     bad(Reason::Header)
 }
