@@ -91,12 +91,11 @@ pub struct QuickDecoded {
 pub fn quick(header: u64, payload: u64) -> QuickDecoded
     ensures { λ r. ⌜ Quickly header payload r ⌝ }
 {
-    let n = shapes::number_of(header, payload);
-    let s = shapes::shape_of(n);
+    let s = shapes::shape_of(header % 2 * (payload % 16));
     let x = ((payload >> s.shift) & s.lanes) | s.fixed;
     let class = s.class;
     QuickDecoded {
-        there: payload & s.codes == s.first,
+        there: header == s.header && payload & s.codes == s.first,
         class: class,
         vector: Vector {
             c0: s.c0,
