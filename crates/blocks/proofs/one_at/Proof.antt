@@ -47,9 +47,10 @@ shl-t16 c = search needs
 -- src/lib.rt:29:1
 returns : tie.Need-returns
 returns c =
-    let s = now (c .before .before .before .before .args .s) in
-    (one-header s (c .before .before .before .before .args .pos) (c .before .before .load-two .result) (c .before .before .load-two .ensures),
-    one-payload s (c .before .before .before .before .args .pos) (c .before .load .result) (c .load-two2 .result) (c .before .load .ensures) (c .load-two2 .ensures))
+    let s = now (c .before .before .before .before .args .s) in (
+      one-header s (c .before .before .before .before .args .pos) (c .before .before .load-two .result) (c .before .before .load-two .ensures),
+      one-payload s (c .before .before .before .before .args .pos) (c .before .load .result) (c .load-two2 .result) (c .before .load .ensures) (c .load-two2 .ensures),
+    )
 
 pub one-at-spec : {M : Type 1} → statement M
 one-at-spec =
