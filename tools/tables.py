@@ -5,7 +5,6 @@ SETS = [(0x9c, 0), (0x5c, 0xf)]
 SLOTS = 'dciost'
 NAMES = ['data', 'control characters', 'control characters other than 1e', 'ordered sets', 'Start', 'Terminate']
 WIDTH = dict(d=8, c=7, i=7, o=4, s=0, t=0)
-OCTETS_FROM = dict(d=0, c=256, i=384, o=512, s=528, t=529)
 CODES_FROM = dict(d=0, c=256, i=512, o=768, s=1024, t=1280)
 
 
@@ -30,25 +29,14 @@ for k, y in enumerate([0x87, 0x99, 0xaa, 0xb4, 0xcc, 0xd2, 0xe1, 0xff]):
     ROWS.append(('T', 8, y, run('d', 0, k) + one('t', k, 7 - k) + run('c', k + 1, 7 - k)))
 
 
-def octet(slot, v):
-    if slot in 'dst':
-        return {'d': v, 's': 0xfb, 't': 0xfd}[slot]
-    table, missing = {'c': (CONTROLS, 256), 'i': (CALM, 256), 'o': (SETS, 512)}[slot]
-    return {c: o for o, c in table}.get(v, missing)
-
-
 def code(slot, o):
     if slot in 'dst':
-        return o if slot == 'd' else 0 if o == octet(slot, 0) else 256
+        return o if slot == 'd' else 0 if o == {'s': 0xfb, 't': 0xfd}[slot] else 256
     table, missing = {'c': (CONTROLS, 256), 'i': (CALM, 256), 'o': (SETS, 512)}[slot]
     return dict(table).get(o, missing)
 
 
-types = [16] * 256
-for r, (kind, lead, y, fields) in enumerate(ROWS):
-    if r:
-        types[y] = r
-shift, mask, base, lane, start, at, low, high = [], [], [], [], [], [], [], []
+lane, start, at, flags = [], [], [], []
 for kind, lead, y, fields in ROWS:
     found, place = {}, lead
     for slot, char, bits in fields:
@@ -58,21 +46,7 @@ for kind, lead, y, fields in ROWS:
         at.append(place % 64)
         place += bits
     assert place == 64
-    for char in range(8):
-        slot, place = found[char]
-        shift.append(place % 64)
-        mask.append(2 ** WIDTH[slot] - 1)
-        base.append(OCTETS_FROM[slot])
-    low.append(sum((found[p][0] != 'd') << p for p in range(4)))
-    high.append(sum((found[p + 4][0] != 'd') << p for p in range(4)))
-flags = [a + 16 * b for a, b in zip(low, high)]
-notes = {'the octets of ' + name: note for name, note in zip(NAMES, ['', ' // control code %02x', ' // in type 1e control code %02x', ' // ordered set code %x', '', '']) if note}
-decode = [('the octets of ' + name, [octet(s, v) for v in range(2 ** WIDTH[s])]) for s, name in zip(SLOTS, NAMES)]
-decode += [('for each character of each row: the place of its field', shift),
-           ('the mask of its field', mask),
-           ('where the octets of its slot begin', base),
-           ('for each row: its first control byte', low),
-           ('its second control byte', high)]
+    flags.append(sum((found[p][0] != 'd') << p for p in range(8)))
 encode = [('the codes of ' + name, [code(s, o) for o in range(256)]) for s, name in zip(SLOTS, NAMES)]
 encode += [('for each field of each row: where its octet stands among eight', lane),
            ('where the codes of its slot begin', start),
@@ -83,19 +57,12 @@ encode += [('for each field of each row: where its octet stands among eight', la
 
 print('// The tables, as tools/tables.py prints them. Each is compared with its rule.')
 print()
-print('// The row of each type byte.')
-print('pub const TYPES: [u8; 256] = [')
-for y, r in enumerate(types):
-    print('    %d, // %02x' % (r, y))
+print('// The tables for encoding, one after the other.')
+print('pub const ENCODE: [u16; %d] = [' % sum(len(values) for _, values in encode))
+place = 0
+for name, values in encode:
+    print('    // %d: %s' % (place, name))
+    for value in values:
+        print('    %d,' % value)
+    place += len(values)
 print('];')
-for const, purpose, parts in [('DECODE', 'decoding', decode), ('ENCODE', 'encoding', encode)]:
-    print()
-    print('// The tables for %s, one after the other.' % purpose)
-    print('pub const %s: [u16; %d] = [' % (const, sum(len(values) for _, values in parts)))
-    place = 0
-    for name, values in parts:
-        print('    // %d: %s' % (place, name))
-        for i, value in enumerate(values):
-            print('    %d,' % value + (notes[name] % i if name in notes else ''))
-        place += len(values)
-    print('];')

@@ -16,36 +16,29 @@ use Rattle.block.specs.declared.Class.{Class}
 use Rattle.block.specs.Block.{twoWords, Slot, Control, Calm, Data, Set, Start, Terminate, Format, lowPowerVector, octetOf, octetAt, flagsAt, kindFor, vectorOf, decodedBy, decoded, good, classBy, classOf, kindIn, isError}
 use Rattle.block.specs.Rows.{width, fieldAt, row, rowOf}
 use Rattle.block.proofs.Tests.{each, at, all, both-left, both-right, or-right, by-test}
-use Rattle.block.proofs.Formats.{blind, flags-lt, sound, sound-width, row-sound}
-use Rattle.block.proofs.Reading.{placeOf, Below, read-at, when-valid, plain-kind}
+use Rattle.block.proofs.Formats.{flags-lt, sound, row-sound}
+use Rattle.block.proofs.Reading.{placeOf, Below, when-valid, plain-kind}
 use Rattle.block.proofs.Classes.{class-good, kind-good}
 use Rattle.block.proofs.Sending.{ten}
 use Rattle.decoding.specs.declared.shapes.Shape.{Shape}
-use Rattle.decoding.specs.Parts.{numberBy, byteAt, suitsData, suitsCode, suitsSlot, suitsAt, OfFormat, OfType, Shapes, none, plain, typed}
+use Rattle.decoding.specs.Parts.{numberBy, byteAt, suitsData, suitsCode, suitsSlot, suitsAt, readsAt, OfFormat, OfType, Shapes, none, plain, typed}
+use Rattle.decoding.proofs.Looking.{by-slot}
 use Rattle.decoding.proofs.Rows.{row-answer}
 
 -- ---- a shape by its tests
 
 pub of-format : {f : Format} {s : Shape} → s .c0 ≡ flagsAt (f .fields) 0 → s .c1 ≡ flagsAt (f .fields) 4 → s .class ≡ good (f .kind)
-    → T (not (eqb (f .type) 0x1e) || eqb (byteAt (s .fixed) 0) 7 && eqb (byteAt (s .lanes) 0) 0) → T (each (suitsAt f s) 0 8) → OfFormat f s
-of-format {f} {s} l h c a t = record { low = l; high = h; class = c; awake = a; characters = at (suitsAt f s) 8 t }
+    → T (not (eqb (f .type) 0x1e) || eqb (byteAt (s .fixed) 0) 7 && eqb (byteAt (s .lanes) 0) 0) → T (each (suitsAt f s) 0 8) → T (each (readsAt f s) 0 8)
+    → OfFormat f s
+of-format {f} {s} l h c a t u = record { low = l; high = h; class = c; awake = a; characters = at (suitsAt f s) 8 t; reading = at (readsAt f s) 8 u }
 
 pub of-type : {s : Shape} → rowOf (s .first) < 16 → s .codes % 2 ^ 8 ≡ 2 ^ 8 - 1 → s .first < 2 ^ 8
     → s .c0 ≡ flagsAt (row (rowOf (s .first)) .fields) 0 → s .c1 ≡ flagsAt (row (rowOf (s .first)) .fields) 4 → s .class ≡ good (row (rowOf (s .first)) .kind)
     → T (not (eqb (row (rowOf (s .first)) .type) 0x1e) || eqb (byteAt (s .fixed) 0) 7 && eqb (byteAt (s .lanes) 0) 0)
-    → T (each (suitsAt (row (rowOf (s .first))) s) 0 8) → OfType s
-of-type {s} i w b l h c a t = record { inside = i; whole = w; byte = b; format = of-format l h c a t }
+    → T (each (suitsAt (row (rowOf (s .first))) s) 0 8) → T (each (readsAt (row (rowOf (s .first))) s) 0 8) → OfType s
+of-type {s} i w b l h c a t u = record { inside = i; whole = w; byte = b; format = of-format l h c a t u }
 
 -- ---- bits
-
--- a slot that looks at its bits has a field of its width
-seen : (ed : Edition) (s : Slot) (a w x : ℕ) → ((T (blind s) → ⊥) → w ≡ width s) → octetOf ed s (x / 2 ^ a % 2 ^ w) ≡ octetOf ed s (x / 2 ^ a % 2 ^ width s)
-seen ed Control a w x e = ap (λ (n : ℕ). octetOf ed Control (x / 2 ^ a % 2 ^ n)) (e (λ z. z))
-seen ed Calm a w x e = ap (λ (n : ℕ). octetOf ed Calm (x / 2 ^ a % 2 ^ n)) (e (λ z. z))
-seen ed Data a w x e = ap (λ (n : ℕ). octetOf ed Data (x / 2 ^ a % 2 ^ n)) (e (λ z. z))
-seen ed Set a w x e = ap (λ (n : ℕ). octetOf ed Set (x / 2 ^ a % 2 ^ n)) (e (λ z. z))
-seen ed Start a w x e = refl
-seen ed Terminate a w x e = refl
 
 -- what a mask holds whole is the same in what it lets through
 masked : (x z y a w : ℕ) → bitAnd x z ≡ y → z / 2 ^ a % 2 ^ w ≡ 2 ^ w - 1 → x / 2 ^ a % 2 ^ w ≡ y / 2 ^ a % 2 ^ w
@@ -132,9 +125,7 @@ module _ (s : Shape) (x : ℕ) where
     character : T (all (sound f)) → p < 8 → T (suitsAt f s p) → octetAt ed (f .fields) (x / 2 ^ f .lead) p ≡ byteAt made p
     unfolding value
     character q l t =
-        read-at ed f x p q l
-        ∙ seen ed (fieldAt (f .fields) p .slot) (placeOf f p) (fieldAt (f .fields) p .bits) x (sound-width f q p l)
-        ∙ of-slot (fieldAt (f .fields) p .slot) t
+        by-slot ed f x p q l ∙ of-slot (fieldAt (f .fields) p .slot) t
 
   -- ---- the vector and the class
 

@@ -9,7 +9,7 @@ use lib.Dec.{eqb, lit<}
 use lib.ListN.{length}
 use borrow.Author.Tests.{eq-eqb, ne-eqb}
 use Rattle.block.specs.declared.Edition.{Edition}
-use Rattle.block.specs.declared.Edition.the-variants.{Old, New}
+use Rattle.block.specs.declared.Edition.the-variants.{New}
 use Rattle.block.specs.declared.Reason.the-variants.{Header, BlockType, ControlCode, SetCode}
 use Rattle.block.specs.declared.Class.{Class}
 use Rattle.block.specs.declared.Class.the-variants as Class
@@ -69,12 +69,7 @@ index-le (f ∷ fs) y = go (eqb (f .type) y) (index-le fs y)
 pub row-le : (y : ℕ) → rowOf y ≤ 16
 row-le y = omega (arith, index-le controlBlocks y)
 
--- ---- eight idles, in each edition, and eight low power idles, in the newer one
-
-idle-block : (ed : Edition) → (Class.C ≡ classOf ed 1 0x1e) × (twoWords 15 0x07070707 15 0x07070707 ≡ decoded ed 1 0x1e)
-unfolding classOf decoded kindFor
-idle-block Old = (refl, refl)
-idle-block New = (refl, refl)
+-- ---- eight low power idles, in the newer edition
 
 low-block : (Class.LI ≡ classOf New 1 0x0c183060c183061e) × (twoWords 15 0x06060606 15 0x06060606 ≡ decoded New 1 0x0c183060c183061e)
 unfolding classOf decoded kindFor
@@ -187,10 +182,9 @@ module _ (ed : Edition) where
           ten refl (omega arith) (omega arith) (omega arith) (omega arith) refl (omega arith) (omega arith) (omega arith) (omega arith)
           ∙ sym (when-valid ed dataBlock x (data-below ed x) .1)
 
-  -- eight idles
-  pub idle-answer : (h x : ℕ) → h ≡ 1 → x ≡ 0x1e → (Class.C ≡ classOf ed h x) × (twoWords 15 0x07070707 15 0x07070707 ≡ decoded ed h x)
-  idle-answer h x e q =
-      subst₂ (λ (h x : ℕ). (Class.C ≡ classOf ed h x) × (twoWords 15 0x07070707 15 0x07070707 ≡ decoded ed h x)) (sym e) (sym q) (idle-block ed)
+  -- a control block has header 1
+  pub of-control : (h x : ℕ) (c : Class) (v : List ℕ) → h ≡ 1 → (c ≡ classOf ed 1 x) × (v ≡ decoded ed 1 x) → (c ≡ classOf ed h x) × (v ≡ decoded ed h x)
+  of-control h x c v e w = subst (λ (h : ℕ). (c ≡ classOf ed h x) × (v ≡ decoded ed h x)) (sym e) w
 
   -- eight low power idles, in the edition that has them
   pub low-answer : (h x : ℕ) → ed ≡ New → h ≡ 1 → x ≡ 0x0c183060c183061e → (Class.LI ≡ classOf ed h x) × (twoWords 15 0x06060606 15 0x06060606 ≡ decoded ed h x)

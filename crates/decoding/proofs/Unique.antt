@@ -12,15 +12,15 @@ use Rattle.block.specs.declared.Edition.{Edition}
 use Rattle.block.specs.declared.Edition.the-variants.{Old}
 use Rattle.block.specs.declared.Kind.{Kind}
 use Rattle.block.specs.declared.Class.{Class}
-use Rattle.block.specs.Block.{decoded, good, classOf, kindIn}
-use Rattle.tables.specs.Tables.{editionIn}
+use Rattle.block.specs.Block.{octetOf, decoded, good, classOf, kindIn}
+use Rattle.block.specs.Rows.{width}
 use Rattle.decoding.specs.declared.Vector.{Vector}
 use Rattle.decoding.specs.declared.Decoded.{Decoded}
 use Rattle.decoding.specs.declared.QuickDecoded.{QuickDecoded}
 use Rattle.decoding.specs.declared.shapes.Shape.{Shape}
 use Rattle.decoding.specs.Vector.{vectorBytes}
 use Rattle.decoding.specs.Quickly.{Quickly}
-use Rattle.decoding.specs.Parts.{numberBy, Shapes}
+use Rattle.decoding.specs.Parts.{slotAt, numberBy, typeBy, Shapes}
 use Rattle.decoding.proofs.Quickly.{words, quickly}
 
 -- a word of 32 bits is known by its four bytes
@@ -56,9 +56,9 @@ vector-same v w a b c d e =
     high : v .d1 ≡ w .d1
     high = lanes-same (v .d1) (w .d1) b d (byte 6) (byte 7) (byte 8) (byte 9)
 
-pub decode-unique : (t : List ℕ) (h x : ℕ) (r r′ : Decoded) → r .vector .d0 < 2 ^ 32 → r .vector .d1 < 2 ^ 32 → r′ .vector .d0 < 2 ^ 32 → r′ .vector .d1 < 2 ^ 32
-    → (r .class ≡ classOf (editionIn t) h x) × (vectorBytes (r .vector) ≡ decoded (editionIn t) h x) → (r′ .class ≡ classOf (editionIn t) h x) × (vectorBytes (r′ .vector) ≡ decoded (editionIn t) h x) → r ≡ r′
-decode-unique t h x r r′ a b c d p q = λ i. record { class = class i; vector = vector i }
+pub decode-unique : (ed : Edition) (h x : ℕ) (r r′ : Decoded) → r .vector .d0 < 2 ^ 32 → r .vector .d1 < 2 ^ 32 → r′ .vector .d0 < 2 ^ 32 → r′ .vector .d1 < 2 ^ 32
+    → (r .class ≡ classOf ed h x) × (vectorBytes (r .vector) ≡ decoded ed h x) → (r′ .class ≡ classOf ed h x) × (vectorBytes (r′ .vector) ≡ decoded ed h x) → r ≡ r′
+decode-unique ed h x r r′ a b c d p q = λ i. record { class = class i; vector = vector i }
   where
     class : r .class ≡ r′ .class
     class = p .0 ∙ sym (q .0)
@@ -77,13 +77,17 @@ quick-unique h x r r′ a b c d t t′ p q = λ i. record { there = (t ∙ sym t
     vector : r .vector ≡ r′ .vector
     vector = vector-same (r .vector) (r′ .vector) a b c d (p t Old .1 ∙ sym (q t′ Old .1))
 
+-- `characters::character`
+pub character-unique : (ed : Edition) (n a x z z′ : ℕ) → z ≡ octetOf ed (slotAt n) (x / 2 ^ a % 2 ^ width (slotAt n)) → z′ ≡ octetOf ed (slotAt n) (x / 2 ^ a % 2 ^ width (slotAt n)) → z ≡ z′
+character-unique ed n a x z z′ p q = p ∙ sym q
+
 pub number-of-unique : (h x n n′ : ℕ) → n ≡ numberBy h x → n′ ≡ numberBy h x → n ≡ n′
 number-of-unique h x n n′ p q = p ∙ sym q
 
 -- `shape_of`: any two shapes of a block's number make the same of it where both take it
 pub shape-of-unique : (h x n : ℕ) (s s′ : Shape) → n ≡ cond (eqb h 2) 16 (cond (eqb h 1) (x % 16) 0) → Shapes n s → Shapes n s′
-    → eqb (bitAnd x (s .codes)) (s .first) ≡ true → eqb (bitAnd x (s′ .codes)) (s′ .first) ≡ true → (s .class ≡ s′ .class) × (words s x ≡ words s′ x)
-shape-of-unique h x n s s′ e p q t t′ =
+    → (n < 16 → s .first ≡ typeBy n) → (n < 16 → s′ .first ≡ typeBy n) → eqb (bitAnd x (s .codes)) (s .first) ≡ true → eqb (bitAnd x (s′ .codes)) (s′ .first) ≡ true → (s .class ≡ s′ .class) × (words s x ≡ words s′ x)
+shape-of-unique h x n s s′ e p q f f′ t t′ =
     let a = quickly h x n s e p t Old in
     let b = quickly h x n s′ e q t′ Old in
     (a .0 ∙ sym (b .0), a .1 ∙ sym (b .1))

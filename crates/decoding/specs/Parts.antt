@@ -1,11 +1,13 @@
 -- A reviewer can skip this file: what the private functions answer.
 use mathlib.Core.Path.{_≡_}
+use mathlib.Core.List.{List, [], _∷_}
 use mathlib.Core.Bool.{Bool, cond, not, _&&_, _||_}
 use Prim.Native.Nat.{ℕ, _+_, _-_, _*_, _/_, _%_, _^_, _<_}
 use lib.Dec.{T, eqb}
+use lib.ListN.{getD}
 use Rattle.block.specs.declared.Edition.{Edition}
 use Rattle.block.specs.declared.Edition.the-variants.{Old, New}
-use Rattle.block.specs.Block.{Slot, Control, Calm, Data, Set, Start, Terminate, Format, octetOf, octetAt, flagsAt, good}
+use Rattle.block.specs.Block.{Slot, Control, Calm, Data, Set, Start, Terminate, Format, controlBlocks, octetOf, octetAt, flagsAt, good}
 use Rattle.block.specs.Rows.{width, fieldAt, placeAt, row, rowOf}
 use Rattle.decoding.specs.declared.shapes.Shape.{Shape}
 
@@ -24,11 +26,44 @@ overBy a b c d = a / 256 + b / 256 + c / 256 + d / 256
 abbrev pub badBy : ℕ → ℕ → ℕ → ℕ → ℕ
 badBy a b c d = a / 256 % 2 + b / 256 % 2 + c / 256 % 2 + d / 256 % 2
 
+-- ---- characters
+
+-- the slots by number
+abbrev pub slotAt : ℕ → Slot
+slotAt n = getD (Data ∷ Control ∷ Calm ∷ Set ∷ Start ∷ []) n Terminate
+
+abbrev pub slotNumber : Slot → ℕ
+slotNumber Data = 0
+slotNumber Control = 1
+slotNumber Calm = 2
+slotNumber Set = 3
+slotNumber Start = 4
+slotNumber Terminate = 5
+
+-- place p and slot p of those that stand a byte each
+abbrev pub placeIn : ℕ → ℕ → ℕ
+placeIn places p = places / 2 ^ (8 * p) % 64
+
+abbrev pub slotIn : ℕ → ℕ → ℕ
+slotIn slots p = slots / 2 ^ (8 * p) % 8
+
+-- the octet that is read there
+abbrev pub octetFrom : Edition → ℕ → ℕ → ℕ → ℕ → ℕ
+octetFrom ed places slots x p = octetOf ed (slotAt (slotIn slots p)) (x / 2 ^ placeIn places p % 2 ^ width (slotAt (slotIn slots p)))
+
 -- ---- shapes
 
 -- the number of a block's shape: 16 for data, the low four bits of its type for a control block, 0 for any other header
 abbrev pub numberBy : ℕ → ℕ → ℕ
 numberBy h x = cond (eqb h 2) 16 (cond (eqb h 1) (x % 16) 0)
+
+-- the type of a control block by its low four bits, or 1, which is no type
+abbrev pub typeIn : List Format → ℕ → ℕ
+typeIn [] n = 1
+typeIn (f ∷ fs) n = cond (eqb (f .type % 16) n) (f .type) (typeIn fs n)
+
+abbrev pub typeBy : ℕ → ℕ
+typeBy n = typeIn controlBlocks n
 
 -- byte p of a number
 abbrev pub byteAt : ℕ → ℕ → ℕ
@@ -62,6 +97,10 @@ module _ (f : Format) (s : Shape) (p : ℕ) where
   abbrev pub suitsAt : Bool
   suitsAt = suitsSlot (fieldAt (f .fields) p .slot)
 
+  -- where the character is read; a Terminate at the end of the payload is read at 0
+  abbrev pub readsAt : Bool
+  readsAt = eqb (placeIn (s .places) p) (begins % 64) && eqb (slotIn (s .slots) p) (slotNumber (fieldAt (f .fields) p .slot))
+
 -- a shape is that of a format: its control bytes, its class, that it is not low power idle, and each character
 pub record OfFormat (f : Format) (s : Shape) : Type 0 where
   pub low : s .c0 ≡ flagsAt (f .fields) 0
@@ -69,6 +108,7 @@ pub record OfFormat (f : Format) (s : Shape) : Type 0 where
   pub class : s .class ≡ good (f .kind)
   pub awake : T (not (eqb (f .type) 0x1e) || eqb (byteAt (s .fixed) 0) 7 && eqb (byteAt (s .lanes) 0) 0)
   pub characters : (p : ℕ) → p < 8 → T (suitsAt f s p)
+  pub reading : (p : ℕ) → p < 8 → T (readsAt f s p)
 
 -- a control block is known by its type
 pub record OfType (s : Shape) : Type 0 where

@@ -1,17 +1,17 @@
 // One received block: its class and its vector.
 ghost use mathlib.Core.Path.{_≡_};
-ghost use Prim.Native.Nat.{_+_, _<_, _≤_};
+ghost use Prim.Native.Nat.{_<_, _≤_};
 ghost use Rattle.block.specs.Block.{errorVector, decodedBy, decoded, good, classBy, classOf, kindIn};
 ghost use Rattle.block.specs.Rows.{row};
-ghost use Rattle.tables.specs.Tables.{types, editionIn, LentToDecode};
 ghost use Rattle.decoding.specs.Vector.{vectorBytes};
-ghost use Rattle.decoding.specs.Parts.{octetBy, lanesBy, overBy, badBy};
+ghost use Rattle.decoding.specs.Parts.{octetFrom, lanesBy, overBy, badBy, OfFormat};
 ghost use Rattle.decoding.specs.Quickly.{Quickly};
 use block::Class;
 use block::Edition;
 use block::Kind;
 use block::Reason;
 
+mod characters;
 mod shapes;
 
 // A vector: two words, each a control byte and four lanes, lane 0 lowest.
@@ -79,116 +79,6 @@ struct Half {
     bad: u16,
 }
 
-// The octet of character p of a block of row r, not below 256 where its bits are not valid.
-fn character(t: &[u16; 946], r: usize, p: usize, x: u64) -> u16
-    requires { ⌜ (r < 16) × (p < 8) × LentToDecode (now t) ⌝ }
-    ensures { λ z. ⌜ z ≡ octetBy (editionIn (now (t .entry))) r x p ⌝ }
-{
-    let k = 8 * r + p;
-    let shift = t[tables::SHIFT + k];
-    let mask = t[tables::MASK + k];
-    let base = t[tables::BASE + k];
-    let v = (x >> shift) & (mask as u64);
-    t[base as usize + v as usize]
-}
-
-// Four characters from p on.
-fn four(t: &[u16; 946], r: usize, p: usize, x: u64) -> Half
-    requires { ⌜ (r < 16) × (p + 3 < 8) × LentToDecode (now t) ⌝ }
-    ensures { λ z. ⌜ (z .lanes ≡ lanesBy (octetBy (editionIn (now (t .entry))) r x p) (octetBy (editionIn (now (t .entry))) r x (p + 1)) (octetBy (editionIn (now (t .entry))) r x (p + 2)) (octetBy (editionIn (now (t .entry))) r x (p + 3))) × (z .over ≡ overBy (octetBy (editionIn (now (t .entry))) r x p) (octetBy (editionIn (now (t .entry))) r x (p + 1)) (octetBy (editionIn (now (t .entry))) r x (p + 2)) (octetBy (editionIn (now (t .entry))) r x (p + 3))) × (z .bad ≡ badBy (octetBy (editionIn (now (t .entry))) r x p) (octetBy (editionIn (now (t .entry))) r x (p + 1)) (octetBy (editionIn (now (t .entry))) r x (p + 2)) (octetBy (editionIn (now (t .entry))) r x (p + 3))) × (z .over < 1024) × (z .bad ≤ 4) ⌝ }
-{
-    let a = character(t, r, p, x);
-    let b = character(t, r, p + 1, x);
-    let c = character(t, r, p + 2, x);
-    let d = character(t, r, p + 3, x);
-    Half {
-        lanes: (a % 256) as u32
-            + (b % 256) as u32 * 256
-            + (c % 256) as u32 * 65536
-            + (d % 256) as u32 * 16777216,
-        over: a / 256 + b / 256 + c / 256 + d / 256,
-        bad: a / 256 % 2 + b / 256 % 2 + c / 256 % 2 + d / 256 % 2,
-    }
-}
-
-// A block of row r.
-fn decode_row(t: &[u16; 946], r: usize, x: u64) -> Decoded
-    requires { ⌜ (r < 16) × LentToDecode (now t) ⌝ }
-    ensures { λ z. ⌜ (z .class ≡ classBy (editionIn (now (t .entry))) (row r) x) × (vectorBytes (z .vector) ≡ decodedBy (editionIn (now (t .entry))) (row r) x) ⌝ }
-{
-    let a = four(t, r, 0, x);
-    let b = four(t, r, 4, x);
-    if a.over + b.over == 0 {
-        let c0 = (t[tables::LOW + r] % 256) as u8;
-        let c1 = (t[tables::HIGH + r] % 256) as u8;
-        return Decoded {
-            class: good_class(tables::kind_of(r, c0, a.lanes, c1, b.lanes)),
-            vector: Vector {
-                c0: c0,
-                d0: a.lanes,
-                c1: c1,
-                d1: b.lanes,
-            },
-        };
-    }
-    if a.bad + b.bad == 0 {
-        return bad(Reason::SetCode);
-    }
-    bad(Reason::ControlCode)
-}
-
-// A block with this header (its two bits as a number, block bit 0 the lower) and payload. The tables are those of the crate tables.
-pub fn decode(t: &[u16; 946], y: &[u8; 256], header: u64, payload: u64) -> Decoded
-    requires { ⌜ LentToDecode (now t) × (now y ≡ types) ⌝ }
-    ensures { λ r. ⌜ (r .class ≡ classOf (editionIn (now (t .entry))) header payload) × (vectorBytes (r .vector) ≡ decoded (editionIn (now (t .entry))) header payload) ⌝ }
-{
-    if header == 2 {
-        return Decoded {
-            class: Class::D,
-            vector: Vector {
-                c0: 0,
-                d0: (payload % 4294967296) as u32,
-                c1: 0,
-                d1: (payload / 4294967296) as u32,
-            },
-        };
-    }
-    if header == 1 {
-        // eight idles
-        if payload == 0x1e {
-            return Decoded {
-                class: Class::C,
-                vector: Vector {
-                    c0: 15,
-                    d0: 0x07070707,
-                    c1: 15,
-                    d1: 0x07070707,
-                },
-            };
-        }
-        let r = y[(payload % 256) as usize] as usize;
-        if r < 16 {
-            // eight low power idles, if the edition has them
-            if payload == 0x0c183060c183061e {
-                if t[tables::LOW_POWER] < 256 {
-                    return Decoded {
-                        class: Class::LI,
-                        vector: Vector {
-                            c0: 15,
-                            d0: 0x06060606,
-                            c1: 15,
-                            d1: 0x06060606,
-                        },
-                    };
-                }
-            }
-            return decode_row(t, r, payload);
-        }
-        return bad(Reason::BlockType);
-    }
-    bad(Reason::Header)
-}
-
 // A block decoded at once, where all its codes are 0: whether that is so, its class and its vector. Those are idles, ordered sets, Starts,
 // Terminates and data, which are the same in both editions.
 pub struct QuickDecoded {
@@ -217,6 +107,107 @@ pub fn quick(header: u64, payload: u64) -> QuickDecoded
     }
 }
 
+// Four characters, whose places and slots are four bytes each.
+fn four(edition: Edition, places: u64, slots: u64, x: u64) -> Half
+    ensures { λ z. ⌜ (z .lanes ≡ lanesBy (octetFrom edition places slots x 0) (octetFrom edition places slots x 1) (octetFrom edition places slots x 2) (octetFrom edition places slots x 3)) × (z .over ≡ overBy (octetFrom edition places slots x 0) (octetFrom edition places slots x 1) (octetFrom edition places slots x 2) (octetFrom edition places slots x 3)) × (z .bad ≡ badBy (octetFrom edition places slots x 0) (octetFrom edition places slots x 1) (octetFrom edition places slots x 2) (octetFrom edition places slots x 3)) × (z .over < 1024) × (z .bad ≤ 4) ⌝ }
+{
+    let a = characters::character(edition, slots % 8, places % 64, x);
+    let b = characters::character(edition, slots / 256 % 8, places / 256 % 64, x);
+    let c = characters::character(edition, slots / 65536 % 8, places / 65536 % 64, x);
+    let d = characters::character(edition, slots / 16777216 % 8, places / 16777216 % 64, x);
+    Half {
+        lanes: (a % 256) as u32
+            + (b % 256) as u32 * 256
+            + (c % 256) as u32 * 65536
+            + (d % 256) as u32 * 16777216,
+        over: a / 256 + b / 256 + c / 256 + d / 256,
+        bad: a / 256 % 2 + b / 256 % 2 + c / 256 % 2 + d / 256 % 2,
+    }
+}
+
+// A block of row r, with its shape.
+fn decode_row(edition: Edition, r: usize, s: shapes::Shape, x: u64) -> Decoded
+    requires { ⌜ (r < 16) × OfFormat (row r) s ⌝ }
+    ensures { λ z. ⌜ (z .class ≡ classBy edition (row r) x) × (vectorBytes (z .vector) ≡ decodedBy edition (row r) x) ⌝ }
+{
+    let a = four(edition, s.places, s.slots, x);
+    let b = four(edition, s.places / 4294967296, s.slots / 4294967296, x);
+    if a.over + b.over == 0 {
+        return Decoded {
+            class: good_class(tables::kind_of(r, s.c0, a.lanes, s.c1, b.lanes)),
+            vector: Vector {
+                c0: s.c0,
+                d0: a.lanes,
+                c1: s.c1,
+                d1: b.lanes,
+            },
+        };
+    }
+    if a.bad + b.bad == 0 {
+        return bad(Reason::SetCode);
+    }
+    bad(Reason::ControlCode)
+}
+
+// A control block.
+fn decode_control(edition: Edition, payload: u64) -> Decoded
+    ensures { λ r. ⌜ (r .class ≡ classOf edition 1 payload) × (vectorBytes (r .vector) ≡ decoded edition 1 payload) ⌝ }
+{
+    let r = tables::type_row(payload % 256);
+    if r == 0 {
+        return bad(Reason::BlockType);
+    }
+    // eight low power idles, if the edition has them
+    if payload == 0x0c183060c183061e {
+        match edition {
+            Edition::Old => {}
+            Edition::New => {
+                return Decoded {
+                    class: Class::LI,
+                    vector: Vector {
+                        c0: 15,
+                        d0: 0x06060606,
+                        c1: 15,
+                        d1: 0x06060606,
+                    },
+                };
+            }
+        }
+    }
+    let s = shapes::shape_of(payload % 16);
+    decode_row(edition, r, s, payload)
+}
+
+// A block with this header (its two bits as a number, block bit 0 the lower) and payload.
+pub fn decode(edition: Edition, header: u64, payload: u64) -> Decoded
+    ensures { λ r. ⌜ (r .class ≡ classOf edition header payload) × (vectorBytes (r .vector) ≡ decoded edition header payload) ⌝ }
+{
+    let q = quick(header, payload);
+    let class = q.class;
+    let vector = q.vector;
+    if q.there {
+        return Decoded {
+            class: class,
+            vector: vector,
+        };
+    }
+    if header == 2 {
+        return Decoded {
+            class: Class::D,
+            vector: Vector {
+                c0: 0,
+                d0: (payload % 4294967296) as u32,
+                c1: 0,
+                d1: (payload / 4294967296) as u32,
+            },
+        };
+    }
+    if header == 1 {
+        return decode_control(edition, payload);
+    }
+    bad(Reason::Header)
+}
+
 // The ten bytes of a vector.
 pub fn bytes_of(v: Vector) -> [u8; 10]
     ensures { λ r. ⌜ r ≡ vectorBytes v ⌝ }
@@ -239,9 +230,7 @@ pub fn bytes_of(v: Vector) -> [u8; 10]
 pub fn decode_block(edition: Edition, header: u8, payload: u64, out: &mut [u8; 10]) -> Class
     ensures { λ c. ⌜ (c ≡ classOf edition header payload) × (now (out .exit) ≡ decoded edition header payload) ⌝ }
 {
-    let t = tables::decode_tables(edition);
-    let y = tables::type_table();
-    let d = decode(&t, &y, header as u64, payload);
+    let d = decode(edition, header as u64, payload);
     let v = d.vector;
     *out = bytes_of(v);
     d.class

@@ -15,7 +15,6 @@ ghost use mathlib.Core.Bool.{true};
 ghost use mathlib.Core.List.{_++_};
 ghost use Prim.Native.Nat.{_+_, _*_, _/_, _≤_, _<_};
 ghost use lib.ListN.{length, take, drop};
-ghost use Rattle.tables.specs.Tables.{decodeTables, types};
 ghost use Rattle.carrying.specs.Carrying.{Sound};
 ghost use Rattle.receiving.specs.Answer.{Receives, summaryOf};
 ghost use Rattle.receiving.specs.Receive.{receivedVectors};
@@ -110,8 +109,8 @@ pub struct LastVector {
 
 // One turn: a whole block of the line, the bits that the carried one lacks, or a bit that is skipped. A block that is full is tested, and
 // the one held before it is answered.
-fn turn(t: &[u16; 946], y: &[u8; 256], line: &[u8], room: &mut [u8], p: Progress) -> Progress
-    requires { ⌜ ((now t ≡ decodeTables (p .receiver .link .edition)) × (now y ≡ types)) × (length (now line) ≤ 825000) × Under (now line) (now room) p × (p .pos < 8 * length (now line)) ⌝ }
+fn turn(line: &[u8], room: &mut [u8], p: Progress) -> Progress
+    requires { ⌜ (length (now line) ≤ 825000) × Under (now line) (now room) p × (p .pos < 8 * length (now line)) ⌝ }
     ensures { λ r. ⌜ Turns (now (line .entry)) (now (room .entry)) (now (room .exit)) p r ⌝ }
 {
     let r = p.receiver;
@@ -125,7 +124,7 @@ fn turn(t: &[u16; 946], y: &[u8; 256], line: &[u8], room: &mut [u8], p: Progress
     let state = r.state;
     let held = r.held;
     if taken.full {
-        let block = testing::test_block(t, y, link, taken.header, taken.payload);
+        let block = testing::test_block(link, taken.header, taken.payload);
         let link = block.link;
         let next = block.held;
         let ends = answering::lets_end(next);
@@ -167,14 +166,8 @@ fn turn(t: &[u16; 946], y: &[u8; 256], line: &[u8], room: &mut [u8], p: Progress
 
 // A receiver over all bits of the line, from a receiver as it stands: the vectors go to the room, but for that of the last block,
 // which is held.
-fn receive_bits(
-    t: &[u16; 946],
-    y: &[u8; 256],
-    line: &[u8],
-    room: &mut [u8],
-    start: Receiver,
-) -> Progress
-    requires { ⌜ ((now t ≡ decodeTables (start .link .edition)) × (now y ≡ types)) × (length (now line) ≤ 825000) × InRange (start .link) × Sound (start .carried) × (length (written start (now line)) ≤ length (now room)) ⌝ }
+fn receive_bits(line: &[u8], room: &mut [u8], start: Receiver) -> Progress
+    requires { ⌜ (length (now line) ≤ 825000) × InRange (start .link) × Sound (start .carried) × (length (written start (now line)) ≤ length (now room)) ⌝ }
     ensures { λ p. ⌜ Ends (now (line .entry)) (now (room .entry)) (now (room .exit)) start p ⌝ }
 {
     let bits = line.len() * 8;
@@ -196,7 +189,7 @@ fn receive_bits(
         },
     };
     while p.pos < bits {
-        p = turn(t, y, line, room, p);
+        p = turn(line, room, p);
     }
     p
 }
@@ -206,11 +199,7 @@ pub fn receive_more(line: &[u8], room: &mut [u8], start: Receiver) -> Progress
     requires { ⌜ (length (now line) ≤ 825000) × InRange (start .link) × Sound (start .carried) × (length (written start (now line)) ≤ length (now room)) ⌝ }
     ensures { λ p. ⌜ Ends (now (line .entry)) (now (room .entry)) (now (room .exit)) start p ⌝ }
 {
-    let link = start.link;
-    let edition = link.edition;
-    let t = tables::decode_tables(edition);
-    let y = tables::type_table();
-    receive_bits(&t, &y, line, room, start)
+    receive_bits(line, room, start)
 }
 
 // The end of the input: the vector of the block that is held, if there is one, goes to the room.

@@ -2,17 +2,15 @@
 use mathlib.Core.Path.{_≡_, _∙_, sym}
 use mathlib.Core.List.{List}
 use Prim.Native.Nat.{ℕ}
+use lib.ListN.{getD}
 use Rattle.block.specs.declared.Edition.{Edition}
 use Rattle.block.specs.declared.Kind.{Kind}
 use Rattle.block.specs.Block.{editionOf, twoWords, kindFor}
 use Rattle.block.specs.Rows.{row}
-use Rattle.tables.specs.Tables.{types, decodeTables, encodeTables}
+use Rattle.tables.specs.Tables.{types, encodeTables}
 
-pub type-table-unique : (r r′ : List ℕ) → r ≡ types → r′ ≡ types → r ≡ r′
-type-table-unique r r′ p q = p ∙ sym q
-
-pub decode-tables-unique : (ed : Edition) (r r′ : List ℕ) → r ≡ decodeTables ed → r′ ≡ decodeTables ed → r ≡ r′
-decode-tables-unique ed r r′ p q = p ∙ sym q
+pub type-row-unique : (y r r′ : ℕ) → r ≡ getD types y 0 → r′ ≡ getD types y 0 → r ≡ r′
+type-row-unique y r r′ p q = p ∙ sym q
 
 pub encode-tables-unique : (ed : Edition) (r r′ : List ℕ) → r ≡ encodeTables ed → r′ ≡ encodeTables ed → r ≡ r′
 encode-tables-unique ed r r′ p q = p ∙ sym q

@@ -3,46 +3,30 @@
 use mathlib.Core.List.{List, [], _∷_, _++_, map}
 use mathlib.Core.Path.{_≡_}
 use mathlib.Core.Bool.{cond}
-use Prim.Native.Nat.{ℕ, zero, suc, _+_, _-_, _*_, _/_, _%_, _^_}
+use Prim.Native.Nat.{ℕ, zero, suc, _+_, _*_, _/_, _%_}
 use lib.Dec.{eqb, ltb}
 use lib.ListN.{getD, take, drop}
 use Rattle.block.specs.declared.Edition.{Edition}
 use Rattle.block.specs.declared.Edition.the-variants.{Old, New}
-use Rattle.block.specs.Block.{Slot, Control, Calm, Data, Set, Start, Terminate, Field, d, Format, codeOf, octetOf, flagsAt}
-use Rattle.block.specs.Rows.{width, fieldAt, placeAt, bitsOf, formats, row, rowOf}
+use Rattle.block.specs.Block.{Slot, Control, Calm, Data, Set, Start, Terminate, Field, d, Format, codeOf, flagsAt}
+use Rattle.block.specs.Rows.{bitsOf, formats, row, rowOf}
 
 -- the numbers from i on, n of them
 abbrev pub upto : ℕ → ℕ → List ℕ
 upto i zero = []
 upto i (suc n) = i ∷ upto (suc i) n
 
--- the row of each type byte, 16 for a byte that is no type
+-- the row of each type byte, 0 for a byte that is no type
 unfoldable pub types : List ℕ
-types = map rowOf (upto 0 256)
+types = map (λ (y : ℕ). rowOf y % 16) (upto 0 256)
 
--- ---- for a character p of a row: table entry 8 * row + p
+-- n numbers of four bits as one, the first lowest; and sixteen entries
+abbrev pub fours : List ℕ → ℕ
+fours [] = 0
+fours (a ∷ l) = a + 16 * fours l
 
-abbrev pub fieldBy : ℕ → Field
-fieldBy k = fieldAt (row (k / 8) .fields) (k % 8)
-
--- the place of its field in the payload; of a Terminate that is the last, 0
-abbrev pub shiftBy : ℕ → ℕ
-shiftBy k = (row (k / 8) .lead + placeAt (row (k / 8) .fields) (k % 8)) % 64
-
-abbrev pub maskBy : ℕ → ℕ
-maskBy k = 2 ^ width (fieldBy k .slot) - 1
-
--- where the octets of a slot begin
-abbrev pub octetsFrom : Slot → ℕ
-octetsFrom Data = 0
-octetsFrom Control = 256
-octetsFrom Calm = 384
-octetsFrom Set = 512
-octetsFrom Start = 528
-octetsFrom Terminate = 529
-
-abbrev pub baseBy : ℕ → ℕ
-baseBy k = octetsFrom (fieldBy k .slot)
+unfoldable pub typeWord : ℕ → ℕ
+typeWord k = fours (map (λ (y : ℕ). rowOf y % 16) (upto (16 * k) 16))
 
 -- ---- for field n of a row, in the order of the payload: table entry 8 * row + n
 
@@ -87,21 +71,7 @@ firstBy m = seek m formats
 abbrev pub nextBy : ℕ → ℕ
 nextBy r = suc r + seek (flagsOf (row r)) (drop (suc r) formats)
 
--- ---- the tables for decoding, and those for encoding, one after the other
-
-unfoldable pub decodeTables : Edition → List ℕ
-decodeTables ed =
-    map (octetOf ed Data) (upto 0 256)
-    ++ map (octetOf ed Control) (upto 0 128)
-    ++ map (octetOf ed Calm) (upto 0 128)
-    ++ map (octetOf ed Set) (upto 0 16)
-    ++ map (octetOf ed Start) (upto 0 1)
-    ++ map (octetOf ed Terminate) (upto 0 1)
-    ++ map shiftBy (upto 0 128)
-    ++ map maskBy (upto 0 128)
-    ++ map baseBy (upto 0 128)
-    ++ map (λ (r : ℕ). flagsAt (row r .fields) 0) (upto 0 16)
-    ++ map (λ (r : ℕ). flagsAt (row r .fields) 4) (upto 0 16)
+-- ---- the tables for encoding, one after the other
 
 unfoldable pub encodeTables : Edition → List ℕ
 encodeTables ed =
@@ -118,12 +88,9 @@ encodeTables ed =
     ++ map firstBy (upto 0 256)
     ++ map nextBy (upto 0 16)
 
--- The edition of lent tables, by the octet of code 06 or the code of octet 06; and that they are the tables of an edition.
+-- The edition of lent tables, by the code of octet 06; and that they are the tables of an edition.
 unfoldable pub editionIn : List ℕ → Edition
 editionIn t = cond (ltb (getD t 262 0) 256) New Old
-
-abbrev pub LentToDecode : List ℕ → Type 0
-LentToDecode t = t ≡ decodeTables (editionIn t)
 
 abbrev pub LentToEncode : List ℕ → Type 0
 LentToEncode t = t ≡ encodeTables (editionIn t)

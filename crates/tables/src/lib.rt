@@ -1,30 +1,18 @@
-// The constant tables of the block formats. A constant array is made anew wherever it is named, so the outermost function takes the
-// tables once and lends them to all below; those for decoding and those for encoding are apart, and each side takes its own.
+// The types of blocks, their kinds, and the constant tables for encoding. A constant array is made anew wherever it is named, so the
+// outermost function takes the tables once and lends them to all below.
 ghost use mathlib.Core.Path.{_≡_};
 ghost use mathlib.Core.List.{List};
 ghost use Prim.Native.Nat.{_<_};
+ghost use lib.ListN.{getD};
 ghost use Rattle.block.specs.Block.{editionOf, twoWords, lowPower, kindFor};
 ghost use Rattle.block.specs.Rows.{row};
-ghost use Rattle.tables.specs.Tables.{types, decodeTables, encodeTables};
+ghost use Rattle.tables.specs.Tables.{types, typeWord, encodeTables};
 use block::Edition;
 use block::Kind;
 
 mod data;
 
-// Where each table begins, of those for decoding: octets come first. For character p of row r, at 8 * r + p: the place of its field, the
-// mask, and where its octets begin.
-pub const SHIFT: usize = 530;
-
-pub const MASK: usize = 658;
-
-pub const BASE: usize = 786;
-
-// For row r: its two control bytes.
-pub const LOW: usize = 914;
-
-pub const HIGH: usize = 930;
-
-// Of those for encoding: codes come first. For field i of row r, at 8 * r + i: where its octet stands among eight, where its codes begin,
+// Where each table begins: codes come first. For field i of row r, at 8 * r + i: where its octet stands among eight, where its codes begin,
 // and its place.
 pub const LANE: usize = 1536;
 
@@ -40,7 +28,7 @@ pub const FIRST: usize = 1936;
 
 pub const NEXT: usize = 2192;
 
-// The octet of control code 06, and the code of that octet: below 256, and so valid, in the newer edition alone.
+// The code of octet 06: below 256, and so valid, in the newer edition alone.
 pub const LOW_POWER: usize = 262;
 
 // The kind of each row, two bits for each: D, C, S and T are 0 to 3.
@@ -53,26 +41,39 @@ pub fn edition_of(n: u64) -> Edition
     if n == 0 { Edition::Old } else { Edition::New }
 }
 
-// The row of each type byte, 16 for a byte that is no type.
-pub fn type_table() -> [u8; 256]
-    ensures { λ r. ⌜ r ≡ types ⌝ }
+// What each byte means as a type: one constant table of 256 entries of four bits each, sixteen to a word, the lowest byte's first. The entry of a type
+// is its row; that of any other byte is 0.
+fn type_word(k: u64) -> u64
+    requires { ⌜ k < 16 ⌝ }
+    ensures { λ r. ⌜ r ≡ typeWord k ⌝ }
 {
-    data::TYPES
+    match k {
+        0 => 0x0000000000000000,
+        1 => 0x0100000000000000,
+        2 => 0x0020000000000000,
+        3 => 0x0000000000003000,
+        4 => 0x0000700000000000,
+        5 => 0x0000000000500000,
+        6 => 0x0000000004000000,
+        7 => 0x0000000600000000,
+        8 => 0x0000000080000000,
+        9 => 0x0000009000000000,
+        10 => 0x00000a0000000000,
+        11 => 0x00000000000b0000,
+        12 => 0x000c000000000000,
+        13 => 0x0000000000000d00,
+        14 => 0x00000000000000e0,
+        15 => 0xf000000000000000,
+        _ => 0,
+    }
 }
 
-// The tables for decoding, one after the other. The newer edition has two entries more.
-pub fn decode_tables(edition: Edition) -> [u16; 946]
-    ensures { λ r. ⌜ r ≡ decodeTables edition ⌝ }
+// The entry of a byte.
+pub fn type_row(y: u64) -> usize
+    requires { ⌜ y < 256 ⌝ }
+    ensures { λ r. ⌜ r ≡ getD types y 0 ⌝ }
 {
-    let mut t = data::DECODE;
-    match edition {
-        Edition::Old => {}
-        Edition::New => {
-            t[262] = 6; // the octet of code 06
-            t[390] = 6; // in type 1e too
-        }
-    }
-    t
+    ((type_word(y / 16) >> (4 * (y % 16))) % 16) as usize
 }
 
 // The tables for encoding, one after the other. The newer edition has two entries more.

@@ -1,72 +1,71 @@
 -- `decoding::four` meets its contract: four characters.
+use mathlib.Core.Path.{_≡_, _∙_, ap₂, sym}
+use Prim.Native.Nat.{ℕ, _/_, _%_, _^_}
+use native.Mathlib.Nat.{div-one}
 use native.Mathlib.Omega.{arith}
 use borrow.Author.Needs.{needs}
-use Rattle.decoding.specs.Parts.{lanesBy, overBy, badBy}
+use Rattle.block.specs.declared.Edition.{Edition}
+use Rattle.block.specs.Block.{octetOf}
+use Rattle.block.specs.Rows.{width}
+use Rattle.decoding.specs.Parts.{slotAt, octetFrom, lanesBy, overBy, badBy}
 use Rattle.decoding.proofs.four.Statement.{statement}
 use Rattle.decoding.proofs.four.Tie as tie
+
+-- the first place and slot stand in the lowest bits
+first : (ed : Edition) (places slots x : ℕ) → octetOf ed (slotAt (slots % 8)) (x / 2 ^ (places % 64) % 2 ^ width (slotAt (slots % 8))) ≡ octetFrom ed places slots x 0
+first ed places slots x =
+    ap₂ (λ (m n : ℕ). octetOf ed (slotAt (n % 8)) (x / 2 ^ (m % 64) % 2 ^ width (slotAt (n % 8)))) (sym (div-one places)) (sym (div-one slots))
 
 character-requires : tie.Need-character-requires
 character-requires c κs = search needs
 
-add-character : tie.Need-add-character
-add-character c = search needs
-
 character-requires-2 : tie.Need-character-requires-2
 character-requires-2 c κs = search needs
-
-add-character-2 : tie.Need-add-character-2
-add-character-2 c = search needs
 
 character-requires-3 : tie.Need-character-requires-3
 character-requires-3 c κs = search needs
 
-add-character-3 : tie.Need-add-character-3
-add-character-3 c = search needs
-
 character-requires-4 : tie.Need-character-requires-4
 character-requires-4 c κs = search needs
 
-cast-t11 : tie.Need-cast-t11
-cast-t11 c = search needs
+cast-t14 : tie.Need-cast-t14
+cast-t14 c = search needs
 
-cast-t13 : tie.Need-cast-t13
-cast-t13 c = search needs
+cast-t16 : tie.Need-cast-t16
+cast-t16 c = search needs
 
-mul-t14 : tie.Need-mul-t14
-mul-t14 c = search needs
+mul-t17 : tie.Need-mul-t17
+mul-t17 c = search needs
 
-add-t15 : tie.Need-add-t15
-add-t15 c = search needs
+add-t18 : tie.Need-add-t18
+add-t18 c = search needs
 
-cast-t17 : tie.Need-cast-t17
-cast-t17 c = search needs
+cast-t20 : tie.Need-cast-t20
+cast-t20 c = search needs
 
-mul-t18 : tie.Need-mul-t18
-mul-t18 c = search needs
+mul-t21 : tie.Need-mul-t21
+mul-t21 c = search needs
 
-add-t19 : tie.Need-add-t19
-add-t19 c = search needs
+add-t22 : tie.Need-add-t22
+add-t22 c = search needs
 
-cast-t21 : tie.Need-cast-t21
-cast-t21 c = search needs
+cast-t24 : tie.Need-cast-t24
+cast-t24 c = search needs
 
-mul-t22 : tie.Need-mul-t22
-mul-t22 c = search needs
-
-add-t23 : tie.Need-add-t23
-add-t23 c = search needs
+mul-t25 : tie.Need-mul-t25
+mul-t25 c = search needs
 
 add-t26 : tie.Need-add-t26
 add-t26 c = search needs
 
-add-t28 : tie.Need-add-t28
-add-t28 c = search needs
+add-t29 : tie.Need-add-t29
+add-t29 c = search needs
 
-add-t30 : tie.Need-add-t30
-add-t30 c = search needs
+add-t31 : tie.Need-add-t31
+add-t31 c = search needs
 
-add-t35 : tie.Need-add-t35
-add-t35 c = search needs
+add-t33 : tie.Need-add-t33
+add-t33 c = search needs
 
 add-t38 : tie.Need-add-t38
 add-t38 c = search needs
@@ -74,40 +73,41 @@ add-t38 c = search needs
 add-t41 : tie.Need-add-t41
 add-t41 c = search needs
 
+add-t44 : tie.Need-add-t44
+add-t44 c = search needs
+
 returns : tie.Need-returns
-returns c = (
-  λ i. lanesBy (c .before .before .before .character .ensures i) (c .before .before .character2 .ensures i) (c .before .character3 .ensures i) (c .character4 .ensures i),
-  λ i. overBy (c .before .before .before .character .ensures i) (c .before .before .character2 .ensures i) (c .before .character3 .ensures i) (c .character4 .ensures i),
-  λ i. badBy (c .before .before .before .character .ensures i) (c .before .before .character2 .ensures i) (c .before .character3 .ensures i) (c .character4 .ensures i),
-  omega arith,
-  omega arith,
-)
+returns c =
+    let a = c .before .before .before .character .ensures ∙ first (c .before .before .before .before .args .edition) (c .before .before .before .before .args .places) (c .before .before .before .before .args .slots) (c .before .before .before .before .args .x) in (
+      λ i. lanesBy (a i) (c .before .before .character2 .ensures i) (c .before .character3 .ensures i) (c .character4 .ensures i),
+      λ i. overBy (a i) (c .before .before .character2 .ensures i) (c .before .character3 .ensures i) (c .character4 .ensures i),
+      λ i. badBy (a i) (c .before .before .character2 .ensures i) (c .before .character3 .ensures i) (c .character4 .ensures i),
+      omega arith,
+      omega arith,
+    )
 
 pub four-spec : {M : Type 1} → statement M
 four-spec =
     tie.close
     (tie.spec
     character-requires
-    add-character
     character-requires-2
-    add-character-2
     character-requires-3
-    add-character-3
     character-requires-4
-    cast-t11
-    cast-t13
-    mul-t14
-    add-t15
-    cast-t17
-    mul-t18
-    add-t19
-    cast-t21
-    mul-t22
-    add-t23
+    cast-t14
+    cast-t16
+    mul-t17
+    add-t18
+    cast-t20
+    mul-t21
+    add-t22
+    cast-t24
+    mul-t25
     add-t26
-    add-t28
-    add-t30
-    add-t35
+    add-t29
+    add-t31
+    add-t33
     add-t38
     add-t41
+    add-t44
     returns)

@@ -1,6 +1,4 @@
 -- `receiving::receive_bits` meets its contract. The loop's invariant: what comes of the receiver, its room and its counts from here is what comes of them from the start. Assumes nothing.
-use mathlib.Core.Path.{ap, sym, _∙_}
-use Rattle.tables.specs.Tables.{decodeTables}
 use native.Mathlib.Omega.{arith}
 use Prim.Native.Nat.{_*_, _-_}
 use borrow.Author.Needs.{needs}
@@ -11,10 +9,10 @@ use Rattle.receiving.proofs.receive_bits.Statement.{statement}
 use Rattle.receiving.proofs.receive_bits.Tie as tie
 
 abbrev Inv-loop : tie.InvT-loop
-Inv-loop t y line room₀ bits p₀ room p = Looping line room₀ room p₀ p
+Inv-loop line room₀ bits p₀ room p = Looping line room₀ room p₀ p
 
 abbrev μ-loop : tie.MeasureT-loop
-μ-loop t y line room₀ bits p₀ room p = 8 * length line - p .pos
+μ-loop line room₀ bits p₀ room p = 8 * length line - p .pos
 
 mul-bits : tie.Need-mul-bits Inv-loop μ-loop
 mul-bits c = search needs
@@ -23,12 +21,12 @@ loop-holds : tie.Need-loop-holds Inv-loop μ-loop
 loop-holds c =
     let args = c .before .before .args in
     let pre = c .before .before .pre in
-    loop-first (now (args .line)) (now (args .room)) (args .start) (pre .2) (pre .3) (pre .4)
+    loop-first (now (args .line)) (now (args .room)) (args .start) (pre .1) (pre .2) (pre .3)
 
 turn-requires : tie.Need-turn-requires Inv-loop μ-loop
 turn-requires c κs =
     let pre = c .before .before .before .before .before .before .pre in
-    ((pre .0 .0 ∙ ap decodeTables (sym (c .before .before .before .loop .inv .edition)), pre .0 .1), pre .1, c .before .before .before .loop .inv .under, omega (arith, c .before .if1 .taken))
+    (pre .0, c .before .before .before .loop .inv .under, omega (arith, c .before .if1 .taken))
 
 loop-less : tie.Need-loop-less Inv-loop μ-loop
 loop-less c = omega (arith, c .before .before .turn .ensures .past, c .before .before .before .before .if1 .taken)
@@ -38,7 +36,7 @@ loop-again c =
     let args = c .before .before .before .before .before .before .before .before .before .args in
     let loop-here = c .before .before .before .before .before .before .loop in
     let turn = c .before .before .turn in
-    loop-next (now (args .line)) (now (args .room)) (loop-here .room) (turn .last .1 .1 .1 .0) _ (loop-here .p) (turn .result)
+    loop-next (now (args .line)) (now (args .room)) (loop-here .room) (turn .last .1 .0) _ (loop-here .p) (turn .result)
     (loop-here .inv) (turn .ensures)
 
 same-length : tie.Need-same-length Inv-loop μ-loop

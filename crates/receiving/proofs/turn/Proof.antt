@@ -23,14 +23,14 @@ settle-held-requires c κs =
     let take-at = c .before .before .before .before .before .before .before .before .before .take-at in
     let test-block = c .before .before .before .before .test-block in (
       rw (c .before .lets-end .ensures)
-          (held-fits (now (args .line)) (now (args .room)) (args .p) (pre .2) (take-at .result) (take-at .ensures) (c .before .before .before .before .before .if1 .taken) (test-block .result .link) (test-block .result .held) (test-block .ensures .0) (test-block .ensures .1)),
-      handed-wide (args .p .handed) (args .p .pos) 6600000 (pre .2 .handed) (omega (arith, pre .1, pre .3)),
+          (held-fits (now (args .line)) (now (args .room)) (args .p) (pre .1) (take-at .result) (take-at .ensures) (c .before .before .before .before .before .if1 .taken) (test-block .result .link) (test-block .result .held) (test-block .ensures .0) (test-block .ensures .1)),
+      handed-wide (args .p .handed) (args .p .pos) 6600000 (pre .1 .handed) (omega (arith, pre .0, pre .2)),
     )
 
 count-block-requires : tie.Need-count-block-requires
 count-block-requires c κs =
     let pre = c .before .before .before .before .before .before .before .before .before .before .before .before .before .before .before .before .before .before .before .pre in
-    within-wide (c .before .before .before .before .before .before .before .before .before .before .before .before .before .before .before .before .before .before .before .args .p .counts) (c .before .before .before .before .before .before .before .before .before .before .before .before .before .before .before .before .before .before .before .args .p .pos) 6600000 (pre .2 .counts) (omega (arith, pre .1, pre .3))
+    within-wide (c .before .before .before .before .before .before .before .before .before .before .before .before .before .before .before .before .before .before .before .args .p .counts) (c .before .before .before .before .before .before .before .before .before .before .before .before .before .before .before .before .before .before .before .args .p .pos) 6600000 (pre .1 .counts) (omega (arith, pre .0, pre .2))
 
 same-length : tie.Need-same-length
 same-length c = search needs
@@ -43,7 +43,7 @@ returns c =
     let test-block = c .before .before .before .before .before .before .before .before .before .test-block in
     let settle-held = c .before .before .before .before .settle-held in
     let e = rw (c .before .before .before .before .before .before .lets-end .ensures) at (settle-held .ensures) in
-    turn-block (now (args .line)) (now (args .room)) (args .p) (pre .2) (take-at .result) (take-at .ensures) (c .before .before .before .before .before .before .before .before .before .before .if1 .taken)
+    turn-block (now (args .line)) (now (args .room)) (args .p) (pre .1) (take-at .result) (take-at .ensures) (c .before .before .before .before .before .before .before .before .before .before .if1 .taken)
     (test-block .result .link) (test-block .result .held) (test-block .ensures .0) (test-block .ensures .1)
     (settle-held .result .state) (settle-held .result .at) (c .count-block .result) (settle-held .last .0) (e .0) (e .1) (e .2) (settle-held .result .handed) (e .3)
     (c .count-block .ensures)
@@ -53,7 +53,7 @@ returns-2 c =
     let args = c .before .before .before .before .before .before .before .before .before .before .args in
     let pre = c .before .before .before .before .before .before .before .before .before .before .pre in
     let take-at = c .before .before .before .before .take-at in
-    turn-wait (now (args .line)) (now (args .room)) (args .p) (pre .2) (pre .3) (take-at .result) (take-at .ensures)
+    turn-wait (now (args .line)) (now (args .room)) (args .p) (pre .1) (pre .2) (take-at .result) (take-at .ensures)
     (c .if1 .left)
 
 pub turn-spec : {M : Type 1} → statement M

@@ -1,8 +1,4 @@
 -- `receiving::testing::test_block` meets its contract. Assumes nothing.
-use mathlib.Core.Path.{ap, _∙_}
-use Rattle.block.specs.declared.Edition.{Edition}
-use Rattle.block.specs.Block.{classOf, decoded}
-use Rattle.tables.proofs.Entries.{lent-to-decode, lends-to-decode}
 use Rattle.receiving.specs.Machine.{linkOf, testedOf}
 use Rattle.receiving.specs.Loop.{testedIn}
 use borrow.Author.Needs.{needs}
@@ -22,7 +18,7 @@ descramble-requires : tie.Need-descramble-requires
 descramble-requires c κs = search needs
 
 decode-requires : tie.Need-decode-requires
-decode-requires c κs = (lends-to-decode (c .before .before .before .before .before .before .args .l .edition) _ (c .before .before .before .before .before .before .pre .0 .0), c .before .before .before .before .before .before .pre .0 .1)
+decode-requires c κs = search needs
 
 is-on-requires : tie.Need-is-on-requires
 is-on-requires c κs = search needs
@@ -34,10 +30,7 @@ returns c =
     let lock-step = c .before .before .before .before .before .before .lock-step in
     let rate-step = c .before .before .before .before .rate-step in
     let descramble = c .before .before .before .descramble in
-    let decode = c .before .before .decode in
-    let ed = lent-to-decode (c .before .before .before .before .before .before .before .before .before .args .l .edition) _ (c .before .before .before .before .before .before .before .before .before .pre .0 .0) in
-    let class = decode .ensures .0 ∙ ap (λ (e : Edition). classOf e (c .before .before .before .before .before .before .before .before .before .args .header) (descramble .result .word)) ed in
-    let vector = decode .ensures .1 ∙ ap (λ (e : Edition). decoded e (c .before .before .before .before .before .before .before .before .before .args .header) (descramble .result .word)) ed in (
+    let decode = c .before .before .decode in (
       rw (← valid-header .ensures, ← lock-step .ensures .0, ← rate-step .ensures, ← descramble .ensures .1),
       rw (
         ← valid-header .ensures,
@@ -45,8 +38,8 @@ returns c =
         ← rate-step .ensures,
         ← lock-step .ensures .1,
         ← descramble .ensures .0,
-        ← class,
-        ← vector,
+        ← decode .ensures .0,
+        ← decode .ensures .1,
         ← c .before .is-on .ensures,
       ),
     )
