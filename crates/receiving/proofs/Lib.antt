@@ -9,6 +9,7 @@ pub mod Count
 pub mod Counted
 pub mod Settle
 pub mod Turning
+pub mod InLock
 pub mod Closing
 pub mod Verdict
 pub mod Unique

@@ -1,7 +1,7 @@
 -- The vectors of all blocks but the last, the block held, and its bytes in the room. Assumes nothing.
 use Prim.Native.Nat.{ℕ, suc, _+_, _*_, _≤_, _<_}
 use mathlib.Core.Path.{_≡_, refl, sym, ap, ap₂, _∙_}
-use mathlib.Core.Bool.{Bool, true, false, cond}
+use mathlib.Core.Bool.{Bool, true, false, cond, true≢false}
 use mathlib.Core.List.{List, [], _∷_, _++_, append-assoc, append-nil, flatten}
 use native.Mathlib.Omega.{arith}
 use native.Mathlib.Nat.{add-zero}
@@ -10,8 +10,9 @@ use lib.Seq.{take-at, drop-at, length-take-le}
 use Rattle.decoding.specs.Vector.{vectorBytes}
 use Rattle.decoding.specs.declared.Vector.{Vector}
 use Rattle.diagrams.specs.declared.State.{State}
+use Rattle.diagrams.specs.declared.State.the-variants.{Init, Control, Data, Terminate, Error, LowPower}
 use Rattle.receiving.specs.Machine.{Tested}
-use Rattle.receiving.specs.Receive.{letsEnd, ends, stateOf, answerIn, Judged, judge, answer, isTerminate, lastIs, judgedAlone, handedOf}
+use Rattle.receiving.specs.Receive.{letsEnd, ends, stateOf, answerIn, Judged, judge, answer, isTerminate, lastIs, judgedAlone, handedOf, decodes}
 use Rattle.receiving.specs.Parts.{Settled, settle, bytesOf, plusHanded}
 use Rattle.receiving.specs.Loop.{testedIn, heldState, heldBytes, heldHanded}
 use Rattle.receiving.specs.Counted.{handOut, HandedWithin}
@@ -50,6 +51,16 @@ module _ (room xs : List ℕ) (at : ℕ) (fits : at + length xs ≤ length room)
       ap length joined ∙ length-append (take at room ++ xs) (drop (at + length xs) room) ∙ omega (arith, upto, length-drop (at + length xs) room)
 
 -- ---- the block held
+
+-- the states that decode answer the block's own vector
+pub as-decoded : (s : State) (v : List ℕ) → decodes s ≡ true → answerIn s v ≡ v
+unfolding answerIn
+as-decoded Init v d = absurd (true≢false (sym d))
+as-decoded Control v d = refl
+as-decoded Data v d = refl
+as-decoded Terminate v d = refl
+as-decoded LowPower v d = refl
+as-decoded Error v d = absurd (true≢false (sym d))
 
 -- the bytes of a block that is held are ten
 pub held-ten : (s : State) (h : Held) (e : Bool) → length (heldBytes true s h e) ≡ 10

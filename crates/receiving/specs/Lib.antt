@@ -7,3 +7,4 @@ pub mod Last
 pub mod Ranges
 pub mod Counted
 pub mod Loop
+pub mod InLock

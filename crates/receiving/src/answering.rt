@@ -39,13 +39,13 @@ fn state_step(s: State, h: Held, ends: bool) -> State
 }
 
 // A vector to be handed out, and what those handed out are counted for.
-struct Out {
-    vector: Vector,
-    handed: Handed,
+pub struct Out {
+    pub vector: Vector,
+    pub handed: Handed,
 }
 
 // The Local Fault vector in INIT, the error vector in E, else the decoded block.
-fn hand_out(n: Handed, s: State, h: Held) -> Out
+pub fn hand_out(n: Handed, s: State, h: Held) -> Out
     requires { ⌜ HandedWithin 6600000 n ⌝ }
     ensures { λ r. ⌜ (vectorBytes (r .vector) ≡ answerIn s (vectorBytes (h .vector))) × (r .handed ≡ handOut n (record { state = s; block = testedIn h })) ⌝ }
 {

@@ -28,6 +28,8 @@ mod testing;
 mod counting;
 // answering.rt: the vector of a block, once the next is known
 mod answering;
+// locked.rt: blocks in lock, some at once
+mod locked;
 
 // The edition in use, and what each tested block updates: lock, error rate, and the last 58 payload bits of the line, the oldest at bit 0.
 pub struct Link {

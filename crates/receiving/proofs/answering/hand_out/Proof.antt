@@ -1,9 +1,8 @@
 -- `receiving::answering::hand_out` meets its contract: Local Fault, an error, a block as decoded. Assumes nothing.
 use mathlib.Core.Path.{_≡_, refl, sym, ap, _∙_}
-use mathlib.Core.Bool.{true, false, true≢false}
-use mathlib.Core.List.{List, [], _∷_}
+use mathlib.Core.Bool.{true, false}
+use mathlib.Core.List.{[], _∷_}
 use mathlib.Core.Logic.{_⊎_, inl, inr}
-use Prim.Native.Nat.{ℕ}
 use native.Mathlib.Omega.{arith}
 use Rattle.diagrams.specs.declared.State.{State}
 use Rattle.diagrams.specs.declared.State.the-variants.{Init, Control, Data, Terminate, Error, LowPower}
@@ -11,6 +10,7 @@ use Rattle.receiving.specs.Receive.{answerIn, decodes, errs}
 use Rattle.receiving.specs.Counted.{handOut}
 use Rattle.receiving.specs.Loop.{testedIn}
 use Rattle.receiving.proofs.Counted.{out-init, out-error, out-decoded}
+use Rattle.receiving.proofs.Settle.{as-decoded}
 use denote.Enum.Declared.{tagOf}
 use types.Run.{OneOf}
 use Rattle.diagrams.proofs.State as S
@@ -32,16 +32,6 @@ in-states Error (inl e) = absurd (omega (arith, e))
 in-states Error (inr (inl e)) = absurd (omega (arith, e))
 in-states Error (inr (inr (inl e))) = absurd (omega (arith, e))
 in-states Error (inr (inr (inr e))) = absurd (omega (arith, e))
-
--- which give the block's own vector
-as-decoded : (s : State) (v : List ℕ) → decodes s ≡ true → answerIn s v ≡ v
-unfolding answerIn
-as-decoded Init v d = absurd (true≢false (sym d))
-as-decoded Control v d = refl
-as-decoded Data v d = refl
-as-decoded Terminate v d = refl
-as-decoded LowPower v d = refl
-as-decoded Error v d = absurd (true≢false (sym d))
 
 enum-told : tie.Need-enum-told
 enum-told c = search needs
