@@ -3,7 +3,7 @@ use mathlib.Core.Path.{_≡_, refl, _∙_, ap, ap₂, subst, sym}
 use mathlib.Core.Bool.{Bool, cond, not, _||_}
 use mathlib.Core.Logic.{_⊎_, inl, inr}
 use Prim.Native.Nat.{ℕ, zero, suc, _+_, _*_, _/_, _%_, _^_, _<_, _≤_}
-use native.Mathlib.Nat.{mod-eq-of-lt, eq-or-lt-of-le}
+use native.Mathlib.Nat.{mod-eq-of-lt, eq-or-lt-of-le, eq-zero-or-pos}
 use native.Mathlib.Omega.{arith}
 use lib.Dec.{T, lit<, eqb, leb, eqb→eq}
 use lib.ListN.{getD}
@@ -19,7 +19,7 @@ use Rattle.block.proofs.Reading.{placeOf, read-at}
 use Rattle.tables.specs.Tables.{types}
 use Rattle.tables.proofs.Types.{type-at}
 use Rattle.decoding.specs.declared.shapes.Shape.{Shape}
-use Rattle.decoding.specs.Parts.{slotAt, slotNumber, placeIn, slotIn, octetFrom, octetBy, typeBy, OfFormat, Shapes, none, plain, typed}
+use Rattle.decoding.specs.Parts.{slotAt, slotNumber, placeIn, slotIn, octetFrom, octetBy, typeBy, OfFormat, Shapes, plain, typed}
 use Rattle.decoding.proofs.Rows.{row-le}
 
 -- ---- control characters and ordered sets
@@ -28,18 +28,19 @@ use Rattle.decoding.proofs.Rows.{row-le}
 abbrev pub codeBy : ℕ → ℕ
 codeBy v = 0x7866554b332d1e00 / 2 ^ (8 * (v / 16)) % 256
 
-abbrev pub octetBy16 : ℕ → ℕ
-octetBy16 v = 0xf7dcbc7c3c1cfe07 / 2 ^ (8 * (v / 16)) % 256
+abbrev pub octetFor : ℕ → ℕ
+octetFor v = 0xf7dcbc7c3c1cfe07 / 2 ^ (8 * (v / 16)) % 256
 
--- at each of the 128 codes the octet is that of the constants where the code is theirs; else there is none but 06 in the newer edition
+-- at each of the 128 codes: the octet is that of the constants where the code is theirs, and else there is none but that of 06 in the newer
+-- edition; type 1e has the same but for 1e
 found : Edition → ℕ → Bool
-found ed v = not (eqb v (codeBy v)) || eqb (octetBy16 v) (octetOf ed Control v)
-
-missed : Edition → ℕ → Bool
-missed ed v = eqb v (codeBy v) || eqb v 6 || eqb 256 (octetOf ed Control v)
+found ed v = not (eqb v (codeBy v)) || eqb (octetFor v) (octetOf ed Control v)
 
 old-missed : ℕ → Bool
 old-missed v = eqb v (codeBy v) || eqb 256 (octetOf Old Control v)
+
+new-missed : ℕ → Bool
+new-missed v = eqb v (codeBy v) || eqb v 6 || eqb 256 (octetOf New Control v)
 
 calmed : Edition → ℕ → Bool
 calmed ed v = eqb v 0x1e || eqb (octetOf ed Control v) (octetOf ed Calm v)
@@ -49,28 +50,23 @@ unfolding found
 all-found Old = tt
 all-found New = tt
 
-all-missed : (ed : Edition) → T (each (missed ed) 0 128)
-unfolding missed
-all-missed Old = tt
-all-missed New = tt
-
 all-calmed : (ed : Edition) → T (each (calmed ed) 0 128)
 unfolding calmed
 all-calmed Old = tt
 all-calmed New = tt
 
 module _ (v : ℕ) (l : v < 128) where
-  pub control-found : (ed : Edition) → v ≡ codeBy v → octetBy16 v ≡ octetOf ed Control v
+  pub control-found : (ed : Edition) → v ≡ codeBy v → octetFor v ≡ octetOf ed Control v
   unfolding found
   control-found ed e =
-      eqb→eq (octetBy16 v) (octetOf ed Control v)
-      (or-right (not (eqb v (codeBy v))) (eqb (octetBy16 v) (octetOf ed Control v)) (at (found ed) 128 (all-found ed) v l) (λ t. subst (λ (b : Bool). T (not b)) (eq-eqb v (codeBy v) e) t))
+      eqb→eq (octetFor v) (octetOf ed Control v)
+      (or-right (not (eqb v (codeBy v))) (eqb (octetFor v) (octetOf ed Control v)) (at (found ed) 128 (all-found ed) v l) (λ t. subst (λ (b : Bool). T (not b)) (eq-eqb v (codeBy v) e) t))
 
-  pub control-missed : (ed : Edition) → (v ≡ codeBy v → ⊥) → (v ≡ 6 → ⊥) → 256 ≡ octetOf ed Control v
-  unfolding missed
-  control-missed ed n m =
-      eqb→eq 256 (octetOf ed Control v)
-      (or-right (eqb v (codeBy v) || eqb v 6) (eqb 256 (octetOf ed Control v)) (at (missed ed) 128 (all-missed ed) v l)
+  pub control-new : (v ≡ codeBy v → ⊥) → (v ≡ 6 → ⊥) → 256 ≡ octetOf New Control v
+  unfolding new-missed
+  control-new n m =
+      eqb→eq 256 (octetOf New Control v)
+      (or-right (eqb v (codeBy v) || eqb v 6) (eqb 256 (octetOf New Control v)) (at new-missed 128 tt v l)
       (λ t. m (eqb→eq v 6 (or-right (eqb v (codeBy v)) (eqb v 6) t (λ u. n (eqb→eq v (codeBy v) u))))))
 
   pub control-old : (v ≡ codeBy v → ⊥) → 256 ≡ octetOf Old Control v
@@ -197,21 +193,22 @@ module _ (x r : ℕ) (e : r ≡ getD types (x % 256) 0) where
       go (inr l) = let q = entry-is ∙ mod-eq-of-lt l in (q, subst (λ (k : ℕ). k < 16) (sym q) l)
 
   -- the shape of its low four bits is that of its row
-  pub shape-is : (s : Shape) → (r ≡ 0 → ⊥) → Shapes (x % 16) s → (x % 16 < 16 → s .first ≡ typeBy (x % 16)) → OfFormat (row r) s
-  shape-is s n w f =
+  pub shape-is : (s : Shape) → (r ≡ 0 → ⊥) → Shapes (x % 16) s → OfFormat (row r) s
+  shape-is s n w =
       let q = row-is n in
-      go w (f (omega arith) ∙ ap typeBy low ∙ type-known (x % 256) (omega arith) (subst (λ (k : ℕ). k < 16) (q .0) (q .1))) (q .0) (q .1)
+      go w (sym (ap typeBy low ∙ type-known (x % 256) (omega arith) (subst (λ (k : ℕ). k < 16) (q .0) (q .1)))) (q .0) (q .1)
     where
       low : x % 16 ≡ x % 256 % 16
       low = omega arith
 
-      no-one : r ≡ rowOf 1 → r < 16 → ⊥
-      no-one e l = omega arith
+      -- no type has 0 there
+      none-zero : r ≡ rowOf 0 → r < 16 → ⊥
+      none-zero e l = omega arith
 
-      no-sixteen : x % 16 ≡ 16 → ⊥
-      no-sixteen e = omega arith
-
-      go : Shapes (x % 16) s → s .first ≡ x % 256 → r ≡ rowOf (x % 256) → r < 16 → OfFormat (row r) s
-      go (none c y) t q l = absurd (no-one (q ∙ ap rowOf (sym t ∙ y)) l)
-      go (plain d o) t q l = absurd (no-sixteen d)
-      go (typed a b o) t q l = subst (λ (k : ℕ). OfFormat (row k) s) (ap rowOf t ∙ sym q) (o .format)
+      go : Shapes (x % 16) s → x % 256 ≡ typeBy (x % 16) → r ≡ rowOf (x % 256) → r < 16 → OfFormat (row r) s
+      go (plain d e o) t q l = by-zero (eq-zero-or-pos (x % 16))
+        where
+          by-zero : (x % 16 ≡ 0) ⊎ (0 < x % 16) → OfFormat (row r) s
+          by-zero (inl z) = absurd (none-zero (q ∙ ap rowOf (t ∙ ap typeBy z)) l)
+          by-zero (inr m) = absurd (d m (omega arith))
+      go (typed f o) t q l = subst (λ (k : ℕ). OfFormat (row k) s) (ap rowOf (f ∙ sym t) ∙ sym q) (o .format)

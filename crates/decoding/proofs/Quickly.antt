@@ -2,8 +2,8 @@
 use mathlib.Core.Path.{_≡_, refl, _∙_, ap, ap₂, subst, sym}
 use mathlib.Core.Bool.{Bool, true, false, not, _&&_, _||_}
 use mathlib.Core.List.{List}
-use Prim.Native.Nat.{ℕ, _+_, _-_, _*_, _/_, _%_, _^_, _<_}
-use native.Mathlib.Nat.{mod-lt, mod-mod, add-comm, div-one, lt-of-le-of-lt}
+use Prim.Native.Nat.{ℕ, zero, suc, _+_, _-_, _*_, _/_, _%_, _^_, _<_}
+use native.Mathlib.Nat.{mod-lt, mod-mod, add-comm, div-one, lt-of-le-of-lt, zero-mul, one-mul}
 use native.Mathlib.Omega.{arith}
 use lib.Dec.{T, lit<, eqb, eqb→eq}
 use lib.Bits.{bitAnd, bitOr, and-shr, and-mod, or-shr, or-mod, and-mask, and-zero-r, and-le-r, or-zero-r, or-zero-l, or-lt}
@@ -21,7 +21,7 @@ use Rattle.block.proofs.Reading.{placeOf, Below, when-valid, plain-kind}
 use Rattle.block.proofs.Classes.{class-good, kind-good}
 use Rattle.block.proofs.Sending.{ten}
 use Rattle.decoding.specs.declared.shapes.Shape.{Shape}
-use Rattle.decoding.specs.Parts.{numberBy, byteAt, suitsData, suitsCode, suitsSlot, suitsAt, readsAt, OfFormat, OfType, Shapes, none, plain, typed}
+use Rattle.decoding.specs.Parts.{byteAt, suitsData, suitsCode, suitsSlot, suitsAt, readsAt, OfFormat, OfType, Shapes, plain, typed}
 use Rattle.decoding.proofs.Looking.{by-slot}
 use Rattle.decoding.proofs.Rows.{row-answer}
 
@@ -32,11 +32,11 @@ pub of-format : {f : Format} {s : Shape} → s .c0 ≡ flagsAt (f .fields) 0 →
     → OfFormat f s
 of-format {f} {s} l h c a t u = record { low = l; high = h; class = c; awake = a; characters = at (suitsAt f s) 8 t; reading = at (readsAt f s) 8 u }
 
-pub of-type : {s : Shape} → rowOf (s .first) < 16 → s .codes % 2 ^ 8 ≡ 2 ^ 8 - 1 → s .first < 2 ^ 8
+pub of-type : {s : Shape} → s .header ≡ 1 → rowOf (s .first) < 16 → s .codes % 2 ^ 8 ≡ 2 ^ 8 - 1 → s .first < 2 ^ 8
     → s .c0 ≡ flagsAt (row (rowOf (s .first)) .fields) 0 → s .c1 ≡ flagsAt (row (rowOf (s .first)) .fields) 4 → s .class ≡ good (row (rowOf (s .first)) .kind)
     → T (not (eqb (row (rowOf (s .first)) .type) 0x1e) || eqb (byteAt (s .fixed) 0) 7 && eqb (byteAt (s .lanes) 0) 0)
     → T (each (suitsAt (row (rowOf (s .first))) s) 0 8) → T (each (readsAt (row (rowOf (s .first))) s) 0 8) → OfType s
-of-type {s} i w b l h c a t u = record { inside = i; whole = w; byte = b; format = of-format l h c a t u }
+of-type {s} e i w b l h c a t u = record { head = e; inside = i; whole = w; byte = b; format = of-format l h c a t u }
 
 -- ---- bits
 
@@ -181,45 +181,15 @@ good-row r l = not-true (isError (row r .kind)) (at (λ r. not (isError (row r .
 good-format : (s : Shape) (r : ℕ) → r < 16 → OfFormat (row r) s → isError (kindIn (s .class)) ≡ false
 good-format s r l o = ap (λ (c : Class). isError (kindIn c)) (o .class) ∙ ap isError (kind-good (row r .kind)) ∙ good-row r l
 
-module _ (h x n : ℕ) (s : Shape) (e : n ≡ numberBy h x) (there : bitAnd x (s .codes) ≡ s .first) (ed : Edition) where
-  -- where the number is 16 it is data, and where it is another but 0 it is a control block
-  data-header : n ≡ 16 → h ≡ 2
-  data-header q =
-      by-test (eqb h 2) (λ t. eqb-true h 2 t)
-      (λ f. by-test (eqb h 1) (λ t. absurd (no-sixteen (sym q ∙ e ∙ rw (f, t))))
-      (λ g. absurd (zero-sixteen (sym q ∙ e ∙ rw (f, g)))))
-    where
-      no-sixteen : 16 ≡ x % 16 → ⊥
-      no-sixteen q = omega arith
-
-      zero-sixteen : _≡_ {A = ℕ} 16 0 → ⊥
-      zero-sixteen q = omega arith
-
-  control-header : 0 < n → n < 16 → h ≡ 1
-  control-header l m =
-      by-test (eqb h 1) (λ t. eqb-true h 1 t)
-      (λ g. by-test (eqb h 2) (λ t. absurd (high (e ∙ rw t)))
-      (λ f. absurd (low (e ∙ rw (f, g)))))
-    where
-      high : n ≡ 16 → ⊥
-      high q = omega arith
-
-      low : n ≡ 0 → ⊥
-      low q = omega arith
-
-  -- the answer, by the shape that its number has
+module _ (h x n : ℕ) (s : Shape) (same : h ≡ s .header) (there : bitAnd x (s .codes) ≡ s .first) (ed : Edition) where
   answer : Shapes n s → (s .class ≡ classOf ed h x) × (words s x ≡ decoded ed h x) × (isError (kindIn (s .class)) ≡ false)
   unfolding classOf decoded
-  answer (none c y) = absurd (never (sym (ap (bitAnd x) c ∙ and-zero-r x) ∙ there ∙ y))
-    where
-      never : _≡_ {A = ℕ} 0 1 → ⊥
-      never q = omega arith
-  answer (plain q o) =
-      let w = subst (λ (h : ℕ). (s .class ≡ classOf ed h x) × (words s x ≡ decoded ed h x)) (sym (data-header q)) (of-row s x ed there (row 0) (row-sound 0 (lit< tt)) o) in
+  answer (plain q e o) =
+      let w = subst (λ (h : ℕ). (s .class ≡ classOf ed h x) × (words s x ≡ decoded ed h x)) (sym (same ∙ e)) (of-row s x ed there (row 0) (row-sound 0 (lit< tt)) o) in
       (w .0, w .1, good-format s 0 (lit< tt) o)
-  answer (typed l m o) =
+  answer (typed q o) =
       let w =
-      row-answer ed h x (rowOf (s .first)) (s .class) (words s x) (control-header l m) (ap rowOf (sym type-is)) (o .inside)
+      row-answer ed h x (rowOf (s .first)) (s .class) (words s x) (same ∙ o .head) (ap rowOf (sym type-is)) (o .inside)
       (of-row s x ed there (row (rowOf (s .first))) (row-sound (rowOf (s .first)) (o .inside)) (o .format)) in
       (w .0, w .1, good-format s (rowOf (s .first)) (o .inside) (o .format))
     where
@@ -228,6 +198,18 @@ module _ (h x n : ℕ) (s : Shape) (e : n ≡ numberBy h x) (there : bitAnd x (s
           omega (arith, masked x (s .codes) (s .first) 0 8 there (ap (λ (z : ℕ). z % 2 ^ 8) (div-one (s .codes)) ∙ o .whole), o .byte)
 
 -- what the code answers
-pub quickly : (h x n : ℕ) (s : Shape) → n ≡ numberBy h x → Shapes n s → eqb (bitAnd x (s .codes)) (s .first) ≡ true → (ed : Edition)
+pub quickly : (h x n : ℕ) (s : Shape) → Shapes n s → h ≡ s .header → eqb (bitAnd x (s .codes)) (s .first) ≡ true → (ed : Edition)
     → (s .class ≡ classOf ed h x) × (words s x ≡ decoded ed h x) × (isError (kindIn (s .class)) ≡ false)
-quickly h x n s e w t ed = answer h x n s e (eqb-true (bitAnd x (s .codes)) (s .first) t) ed w
+quickly h x n s w e t ed = answer h x n s e (eqb-true (bitAnd x (s .codes)) (s .first) t) ed w
+
+-- the number of a shape is below 16
+pub number-lt : (h x : ℕ) → h % 2 * (x % 16) < 16
+number-lt h x = go (h % 2) (mod-lt h (lit< tt))
+  where
+    go : (b : ℕ) → b < 2 → b * (x % 16) < 16
+    go zero l = omega (arith, zero-mul (x % 16))
+    go (suc zero) l = omega (arith, one-mul (x % 16))
+    go (suc (suc b)) l = absurd (far l)
+      where
+        far : suc (suc b) < 2 → ⊥
+        far k = omega arith

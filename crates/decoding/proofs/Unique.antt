@@ -1,6 +1,6 @@
 -- Any two answers, and contents of lent memory, that meet a public function's promise are equal.
 use mathlib.Core.Path.{_≡_, _∙_, ap, sym}
-use mathlib.Core.Bool.{true, cond}
+use mathlib.Core.Bool.{true}
 use mathlib.Core.List.{List}
 use Prim.Native.Nat.{ℕ, _/_, _%_, _^_, _<_}
 use native.Mathlib.Omega.{arith}
@@ -20,7 +20,7 @@ use Rattle.decoding.specs.declared.QuickDecoded.{QuickDecoded}
 use Rattle.decoding.specs.declared.shapes.Shape.{Shape}
 use Rattle.decoding.specs.Vector.{vectorBytes}
 use Rattle.decoding.specs.Quickly.{Quickly}
-use Rattle.decoding.specs.Parts.{slotAt, numberBy, typeBy, Shapes}
+use Rattle.decoding.specs.Parts.{slotAt, Shapes}
 use Rattle.decoding.proofs.Quickly.{words, quickly}
 
 -- a word of 32 bits is known by its four bytes
@@ -81,15 +81,12 @@ quick-unique h x r r′ a b c d t t′ p q = λ i. record { there = (t ∙ sym t
 pub character-unique : (ed : Edition) (n a x z z′ : ℕ) → z ≡ octetOf ed (slotAt n) (x / 2 ^ a % 2 ^ width (slotAt n)) → z′ ≡ octetOf ed (slotAt n) (x / 2 ^ a % 2 ^ width (slotAt n)) → z ≡ z′
 character-unique ed n a x z z′ p q = p ∙ sym q
 
-pub number-of-unique : (h x n n′ : ℕ) → n ≡ numberBy h x → n′ ≡ numberBy h x → n ≡ n′
-number-of-unique h x n n′ p q = p ∙ sym q
-
--- `shape_of`: any two shapes of a block's number make the same of it where both take it
-pub shape-of-unique : (h x n : ℕ) (s s′ : Shape) → n ≡ cond (eqb h 2) 16 (cond (eqb h 1) (x % 16) 0) → Shapes n s → Shapes n s′
-    → (n < 16 → s .first ≡ typeBy n) → (n < 16 → s′ .first ≡ typeBy n) → eqb (bitAnd x (s .codes)) (s .first) ≡ true → eqb (bitAnd x (s′ .codes)) (s′ .first) ≡ true → (s .class ≡ s′ .class) × (words s x ≡ words s′ x)
-shape-of-unique h x n s s′ e p q f f′ t t′ =
-    let a = quickly h x n s e p t Old in
-    let b = quickly h x n s′ e q t′ Old in
+-- `shapes::shape_of`: any two shapes of a number make the same of a block that both take
+pub shape-of-unique : (h x n : ℕ) (s s′ : Shape) → Shapes n s → Shapes n s′ → h ≡ s .header → h ≡ s′ .header
+    → eqb (bitAnd x (s .codes)) (s .first) ≡ true → eqb (bitAnd x (s′ .codes)) (s′ .first) ≡ true → (s .class ≡ s′ .class) × (words s x ≡ words s′ x)
+shape-of-unique h x n s s′ p q e e′ t t′ =
+    let a = quickly h x n s p e t Old in
+    let b = quickly h x n s′ q e′ t′ Old in
     (a .0 ∙ sym (b .0), a .1 ∙ sym (b .1))
 
 pub bytes-of-unique : (v : Vector) (r r′ : List ℕ) → r ≡ vectorBytes v → r′ ≡ vectorBytes v → r ≡ r′

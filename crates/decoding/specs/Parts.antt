@@ -53,13 +53,9 @@ octetFrom ed places slots x p = octetOf ed (slotAt (slotIn slots p)) (x / 2 ^ pl
 
 -- ---- shapes
 
--- the number of a block's shape: 16 for data, the low four bits of its type for a control block, 0 for any other header
-abbrev pub numberBy : ℕ → ℕ → ℕ
-numberBy h x = cond (eqb h 2) 16 (cond (eqb h 1) (x % 16) 0)
-
--- the type of a control block by its low four bits, or 1, which is no type
+-- the type of a control block by its low four bits, 0 if there is none
 abbrev pub typeIn : List Format → ℕ → ℕ
-typeIn [] n = 1
+typeIn [] n = 0
 typeIn (f ∷ fs) n = cond (eqb (f .type % 16) n) (f .type) (typeIn fs n)
 
 abbrev pub typeBy : ℕ → ℕ
@@ -112,13 +108,13 @@ pub record OfFormat (f : Format) (s : Shape) : Type 0 where
 
 -- a control block is known by its type
 pub record OfType (s : Shape) : Type 0 where
+  pub head : s .header ≡ 1
   pub inside : rowOf (s .first) < 16
   pub whole : s .codes % 2 ^ 8 ≡ 2 ^ 8 - 1
   pub byte : s .first < 2 ^ 8
   pub format : OfFormat (row (rowOf (s .first))) s
 
--- shape 16 is that of data, 1 to 15 are known by their types, and any other is of no block: no bits are ever 1
+-- shapes 1 to 15 are those of the types with these low four bits, and any other is that of data
 pub data Shapes (n : ℕ) (s : Shape) : Type 0 where
-  none : s .codes ≡ 0 → s .first ≡ 1 → Shapes n s
-  plain : n ≡ 16 → OfFormat (row 0) s → Shapes n s
-  typed : 0 < n → n < 16 → OfType s → Shapes n s
+  plain : (0 < n → n < 16 → ⊥) → s .header ≡ 2 → OfFormat (row 0) s → Shapes n s
+  typed : s .first ≡ typeBy n → OfType s → Shapes n s

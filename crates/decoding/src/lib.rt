@@ -91,12 +91,11 @@ pub struct QuickDecoded {
 pub fn quick(header: u64, payload: u64) -> QuickDecoded
     ensures { λ r. ⌜ Quickly header payload r ⌝ }
 {
-    let n = shapes::number_of(header, payload);
-    let s = shapes::shape_of(n);
+    let s = shapes::shape_of(header % 2 * (payload % 16));
     let x = ((payload >> s.shift) & s.lanes) | s.fixed;
     let class = s.class;
     QuickDecoded {
-        there: payload & s.codes == s.first,
+        there: header == s.header && payload & s.codes == s.first,
         class: class,
         vector: Vector {
             c0: s.c0,
@@ -203,7 +202,19 @@ pub fn decode(edition: Edition, header: u64, payload: u64) -> Decoded
         };
     }
     if header == 1 {
-        return decode_control(edition, payload);
+        // the fields one by one: the other answers then stay in registers
+        let d = decode_control(edition, payload);
+        let class = d.class;
+        let v = d.vector;
+        return Decoded {
+            class: class,
+            vector: Vector {
+                c0: v.c0,
+                d0: v.d0,
+                c1: v.c1,
+                d1: v.d1,
+            },
+        };
     }
     bad(Reason::Header)
 }

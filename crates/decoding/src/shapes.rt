@@ -1,15 +1,14 @@
-// The formats of blocks as constants, found by the low four bits of their types, no two of which are the same. Each match is read from a
-// constant table: nothing is made anew at a call.
-ghost use mathlib.Core.Path.{_≡_};
+// The formats of blocks as constants. A control block is found by the low four bits of its type: they are another in each type, and 0 in none,
+// which is data. The match is read from constant tables: nothing is made anew at a call.
 ghost use Prim.Native.Nat.{_<_};
-ghost use Rattle.decoding.specs.Parts.{numberBy, typeBy, Shapes};
+ghost use Rattle.decoding.specs.Parts.{Shapes};
 use block::Class;
-use block::Reason;
 
-// One format: its type, and for each character, a byte each, the place of its field (0 where that is the end) and its slot (see
+// One format: its header and type, and for each character, a byte each, the place of its field (0 where that is the end) and its slot (see
 // `characters`). And a block of it with every code 0: the bits of its type and codes; how far its data octets stand above their lanes, and
 // those lanes; the octets of its other characters; its control bytes; its class.
 pub struct Shape {
+    pub header: u64,
     pub first: u64,
     pub codes: u64,
     pub shift: u64,
@@ -22,22 +21,13 @@ pub struct Shape {
     pub class: Class,
 }
 
-// The number of a block's shape: 16 for data, the low four bits of its type for a control block, and 0, which no type has, for any other header.
-pub fn number_of(header: u64, payload: u64) -> u64
-    ensures { λ r. ⌜ r ≡ numberBy header payload ⌝ }
-{
-    if header < 3 {
-        return header / 2 * 16 + header % 2 * (payload % 16);
-    }
-    0
-}
-
-// The shape of a number. That of 0 is of no block: 1 is no type, and no bits of it are ever 1.
+// The shape of the types with these low four bits; that of data for any other number.
 pub fn shape_of(n: u64) -> Shape
-    ensures { λ r. ⌜ (r .shift < 64) × Shapes n r × (n < 16 → r .first ≡ typeBy n) ⌝ }
+    ensures { λ r. ⌜ (r .shift < 64) × Shapes n r ⌝ }
 {
     match n {
         1 => Shape {
+            header: 1,
             first: 0xe1,
             codes: 0xfe000000000000ff,
             shift: 8,
@@ -50,6 +40,7 @@ pub fn shape_of(n: u64) -> Shape
             class: Class::T,
         },
         2 => Shape {
+            header: 1,
             first: 0xd2,
             codes: 0xfffc0000000000ff,
             shift: 8,
@@ -62,6 +53,7 @@ pub fn shape_of(n: u64) -> Shape
             class: Class::T,
         },
         3 => Shape {
+            header: 1,
             first: 0x33,
             codes: 0x0000000fffffffff,
             shift: 0,
@@ -74,6 +66,7 @@ pub fn shape_of(n: u64) -> Shape
             class: Class::S,
         },
         4 => Shape {
+            header: 1,
             first: 0xb4,
             codes: 0xfffffff0000000ff,
             shift: 8,
@@ -86,6 +79,7 @@ pub fn shape_of(n: u64) -> Shape
             class: Class::T,
         },
         5 => Shape {
+            header: 1,
             first: 0x55,
             codes: 0x000000ff000000ff,
             shift: 0,
@@ -98,6 +92,7 @@ pub fn shape_of(n: u64) -> Shape
             class: Class::C,
         },
         6 => Shape {
+            header: 1,
             first: 0x66,
             codes: 0x0000000f000000ff,
             shift: 0,
@@ -110,6 +105,7 @@ pub fn shape_of(n: u64) -> Shape
             class: Class::S,
         },
         7 => Shape {
+            header: 1,
             first: 0x87,
             codes: 0xffffffffffff80ff,
             shift: 0,
@@ -122,6 +118,7 @@ pub fn shape_of(n: u64) -> Shape
             class: Class::T,
         },
         8 => Shape {
+            header: 1,
             first: 0x78,
             codes: 0x00000000000000ff,
             shift: 0,
@@ -134,6 +131,7 @@ pub fn shape_of(n: u64) -> Shape
             class: Class::S,
         },
         9 => Shape {
+            header: 1,
             first: 0x99,
             codes: 0xffffffffffc000ff,
             shift: 8,
@@ -146,6 +144,7 @@ pub fn shape_of(n: u64) -> Shape
             class: Class::T,
         },
         10 => Shape {
+            header: 1,
             first: 0xaa,
             codes: 0xffffffffe00000ff,
             shift: 8,
@@ -158,6 +157,7 @@ pub fn shape_of(n: u64) -> Shape
             class: Class::T,
         },
         11 => Shape {
+            header: 1,
             first: 0x4b,
             codes: 0xffffffff000000ff,
             shift: 0,
@@ -170,6 +170,7 @@ pub fn shape_of(n: u64) -> Shape
             class: Class::C,
         },
         12 => Shape {
+            header: 1,
             first: 0xcc,
             codes: 0xfffff800000000ff,
             shift: 8,
@@ -182,6 +183,7 @@ pub fn shape_of(n: u64) -> Shape
             class: Class::T,
         },
         13 => Shape {
+            header: 1,
             first: 0x2d,
             codes: 0x000000ffffffffff,
             shift: 0,
@@ -194,6 +196,7 @@ pub fn shape_of(n: u64) -> Shape
             class: Class::C,
         },
         14 => Shape {
+            header: 1,
             first: 0x1e,
             codes: 0xffffffffffffffff,
             shift: 0,
@@ -206,6 +209,7 @@ pub fn shape_of(n: u64) -> Shape
             class: Class::C,
         },
         15 => Shape {
+            header: 1,
             first: 0xff,
             codes: 0x00000000000000ff,
             shift: 8,
@@ -217,7 +221,8 @@ pub fn shape_of(n: u64) -> Shape
             c1: 8,
             class: Class::T,
         },
-        16 => Shape {
+        _ => Shape {
+            header: 2,
             first: 0x00,
             codes: 0x0000000000000000,
             shift: 0,
@@ -228,18 +233,6 @@ pub fn shape_of(n: u64) -> Shape
             c0: 0,
             c1: 0,
             class: Class::D,
-        },
-        _ => Shape {
-            first: 0x01,
-            codes: 0x0000000000000000,
-            shift: 0,
-            lanes: 0x0000000000000000,
-            fixed: 0x0000000000000000,
-            places: 0x0000000000000000,
-            slots: 0x0000000000000000,
-            c0: 0,
-            c1: 0,
-            class: Class::Bad(Reason::BlockType),
         },
     }
 }

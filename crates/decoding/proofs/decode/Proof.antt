@@ -11,11 +11,11 @@ quick-requires c κs = search needs
 returns : tie.Need-returns
 returns c = let w = c .before .before .quick .ensures (c .if1 .taken) (c .before .before .before .args .edition) in (w .0, w .1)
 
-cast-t10 : tie.Need-cast-t10
-cast-t10 c = search needs
+cast-t13 : tie.Need-cast-t13
+cast-t13 c = search needs
 
-cast-t12 : tie.Need-cast-t12
-cast-t12 c = search needs
+cast-t15 : tie.Need-cast-t15
+cast-t15 c = search needs
 
 returns-2 : tie.Need-returns-2
 returns-2 c = data-answer (c .before .before .before .before .args .edition) (c .before .before .before .before .args .header) (c .before .before .before .before .args .payload) (c .if2 .taken)
@@ -24,7 +24,7 @@ decode-control-requires : tie.Need-decode-control-requires
 decode-control-requires c κs = search needs
 
 returns-3 : tie.Need-returns-3
-returns-3 c = of-control (c .before .before .before .before .before .before .args .edition) (c .before .before .before .before .before .before .args .header) (c .before .before .before .before .before .before .args .payload) _ _ (c .before .if3 .taken) (c .decode-control .ensures)
+returns-3 c = of-control (c .before .before .before .before .before .before .before .args .edition) (c .before .before .before .before .before .before .before .args .header) (c .before .before .before .before .before .before .before .args .payload) _ _ (c .before .before .if3 .taken) (c .before .decode-control .ensures)
 
 bad-requires : tie.Need-bad-requires
 bad-requires c κs = search needs
@@ -40,8 +40,8 @@ decode-spec =
     (tie.spec
     quick-requires
     returns
-    cast-t10
-    cast-t12
+    cast-t13
+    cast-t15
     returns-2
     decode-control-requires
     returns-3

@@ -31,7 +31,7 @@ shape-of-requires c κs = search needs
 
 decode-row-requires : tie.Need-decode-row-requires
 decode-row-requires c κs =
-    (row-is (c .before .before .before .before .args .payload) _ (c .before .before .before .type-row .ensures) (c .before .before .if1 .left) .1, shape-is (c .before .before .before .before .args .payload) _ (c .before .before .before .type-row .ensures) _ (c .before .before .if1 .left) (c .shape-of .ensures .1) (c .shape-of .ensures .2))
+    (row-is (c .before .before .before .before .args .payload) _ (c .before .before .before .type-row .ensures) (c .before .before .if1 .left) .1, shape-is (c .before .before .before .before .args .payload) _ (c .before .before .before .type-row .ensures) _ (c .before .before .if1 .left) (c .shape-of .ensures .1))
 
 returns-3 : tie.Need-returns-3
 returns-3 c =

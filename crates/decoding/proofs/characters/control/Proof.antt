@@ -3,9 +3,8 @@ use mathlib.Core.Path.{_≡_, subst, sym}
 use Prim.Native.Nat.{ℕ}
 use borrow.Author.Needs.{needs}
 use Rattle.block.specs.declared.Edition.{Edition}
-use Rattle.block.specs.declared.Edition.the-variants.{New}
 use Rattle.block.specs.Block.{Control, octetOf}
-use Rattle.decoding.proofs.Looking.{control-found, control-missed, control-old, control-six}
+use Rattle.decoding.proofs.Looking.{control-found, control-old, control-new, control-six}
 use Rattle.decoding.proofs.characters.control.Statement.{statement}
 use Rattle.decoding.proofs.characters.control.Tie as tie
 
@@ -40,7 +39,7 @@ returns-3 : tie.Need-returns-3
 returns-3 c = of (c .before .before .before .args .v) (c .enum-told .given .1) (control-old (c .before .before .before .args .v) (c .before .before .before .pre) (c .before .before .if1 .left))
 
 returns-4 : tie.Need-returns-4
-returns-4 c = of (c .before .before .before .before .args .v) (c .before .enum-told2 .given .1) (control-missed (c .before .before .before .before .args .v) (c .before .before .before .before .pre) New (c .before .before .before .if1 .left) (c .if2 .left))
+returns-4 c = of (c .before .before .before .before .args .v) (c .before .enum-told2 .given .1) (control-new (c .before .before .before .before .args .v) (c .before .before .before .before .pre) (c .before .before .before .if1 .left) (c .if2 .left))
 
 pub control-spec : {M : Type 1} → statement M
 control-spec =
