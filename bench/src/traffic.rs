@@ -21,7 +21,7 @@ pub fn all(edition: Edition) -> Vec<Traffic> {
     let noisy_line = random.bytes(BLOCKS / 4 * 33);
     let mut all = vec![
         Traffic { name: "all idle", vectors: lists::idle().repeat(BLOCKS), line: None },
-        Traffic { name: "1,500-octet frames", vectors: frames(|_| 1_500), line: None },
+        Traffic { name: "1,500-octet frames", vectors: long_frames(), line: None },
         Traffic { name: "64-octet frames", vectors: frames(|n| 64 + n % 8), line: None },
         Traffic { name: "noise", vectors: noise, line: Some(noisy_line) },
     ];
@@ -29,6 +29,10 @@ pub fn all(edition: Edition) -> Vec<Traffic> {
         all.push(Traffic { name: "low power idle", vectors: low_power(), line: None });
     }
     all
+}
+
+pub fn long_frames() -> Vec<u8> {
+    frames(|_| 1_500)
 }
 
 /// 64 vectors of idles, then low power idle.
