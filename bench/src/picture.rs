@@ -14,7 +14,7 @@ const APART: f64 = 15.0;
 /// Nanoseconds of a block at 10 Gbit/s of data, 10.3125 of line bits.
 const LINE_RATE: f64 = 6.4;
 
-const STYLE: &str = "text{font:12px sans-serif;fill:#57606a}.title{font-weight:bold}.axis{stroke:#8c959f}.grid{stroke:#8c959f;opacity:.3}\
+const STYLE: &str = "text{font:12px sans-serif;fill:#6e7781}.title{font-weight:bold}.axis{stroke:#8c959f}.grid{stroke:#8c959f;opacity:.3}\
 .rate{stroke:#8c959f;stroke-dasharray:5 4}.library{stroke:#2f81f7;fill:#2f81f7}.plain{stroke:#c9752a;fill:#c9752a}\
 .fastest{stroke:#2da44e;fill:#2da44e}polyline{fill:none!important;stroke-width:2}text{stroke:none!important}\
 @media(prefers-color-scheme:dark){text{fill:#adbac7}}text.library{fill:#2f81f7}text.plain{fill:#c9752a}text.fastest{fill:#2da44e}";
@@ -70,7 +70,7 @@ fn axes(svg: &mut String, axis: &Axis, left: f64) {
     text(svg, "", "middle", [left + PANEL / 2.0, BOTTOM + 40.0], "blocks in a call");
     let rate = axis.y(LINE_RATE);
     line(svg, "rate", [left, rate, left + PANEL, rate]);
-    text(svg, "", "end", [left + PANEL, rate - 5.0], "10 Gbit/s line: 6.4 ns");
+    text(svg, "", "end", [left + PANEL, rate + 14.0], "10 Gbit/s line: 6.4 ns");
 }
 
 /// The first word of a way's name.
