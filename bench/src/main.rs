@@ -84,12 +84,13 @@ fn time_bursts(edition: Edition, line: &[u8], bytes: usize) -> [f64; 2] {
     })
 }
 
+/// In the new edition only what the old one does not have.
 fn bursts(report: &mut Report) {
     report.head("The library in bursts and in one call, ns a block", &["", "line", "in bursts", "one call", "ratio"]);
     for edition in EDITIONS {
-        let all = traffic::all(edition);
+        let lines = traffic::new_in(edition);
         for (name, bytes) in BURSTS {
-            all.iter().for_each(|t| burst_row(report, edition, t, name, bytes));
+            lines.iter().for_each(|t| burst_row(report, edition, t, name, bytes));
         }
     }
 }
@@ -135,6 +136,7 @@ fn main() {
     calls(&mut report);
     let curves = growth::curves();
     growth::table(&mut report, &curves);
+    report.picture("ns a block by the number of blocks in a call", "docs/growth.svg");
     if let Some(folder) = std::env::args().nth(1) {
         report.write(&folder, "speed.md");
         report::write(&folder, "growth.svg", &picture::of(&curves));

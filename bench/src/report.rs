@@ -25,6 +25,11 @@ impl Report {
         self.line(&format!("| {} |", cells.join(" | ")));
     }
 
+    /// A picture, as README.md shows it.
+    pub fn picture(&mut self, title: &str, file: &str) {
+        self.line(&format!("\n![{title}]({file})"));
+    }
+
     pub fn write(&self, folder: &str, name: &str) {
         write(folder, name, &self.0);
     }

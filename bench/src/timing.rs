@@ -4,10 +4,11 @@ use crate::ways::WAYS;
 use compare::library;
 use compare::reference::edition::Edition;
 use std::hint::black_box;
-use std::time::Instant;
+use std::time::{Duration, Instant};
 
-/// How often each call is timed.
+/// Each call is timed so often at least, and for so long: what else the machine does comes and goes.
 const TIMES: usize = 200;
+const AT_LEAST: Duration = Duration::from_millis(500);
 /// A call over fewer blocks is timed with others of its kind, about so many blocks in all.
 const BLOCKS_AT_A_TIME: usize = 2_000;
 
@@ -31,7 +32,9 @@ pub fn best<const N: usize>(calls: usize, lents: &mut [Lent; N], call: impl Fn(u
     let results: Vec<u64> = lents.iter_mut().enumerate().map(|(way, lent)| call(way, lent)).collect();
     assert!(results.iter().all(|result| *result == 0) && lents.iter().all(|lent| *lent == lents[0]), "they differ");
     let mut best = [f64::MAX; N];
-    for _ in 0..TIMES {
+    let (mut times, all_began) = (0, Instant::now());
+    while times < TIMES || all_began.elapsed() < AT_LEAST {
+        times += 1;
         for (way, lent) in lents.iter_mut().enumerate() {
             let began = Instant::now();
             for _ in 0..calls {

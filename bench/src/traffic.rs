@@ -26,9 +26,17 @@ pub fn all(edition: Edition) -> Vec<Traffic> {
         Traffic { name: "noise", vectors: noise, line: Some(noisy_line) },
     ];
     if edition == Edition::New {
-        all.push(Traffic { name: "low power idle", vectors: low_power(), line: None });
+        all.push(low_power());
     }
     all
+}
+
+/// Those of an edition that the one before does not have.
+pub fn new_in(edition: Edition) -> Vec<Traffic> {
+    match edition {
+        Edition::Old => all(edition),
+        Edition::New => vec![low_power()],
+    }
 }
 
 pub fn long_frames() -> Vec<u8> {
@@ -36,8 +44,9 @@ pub fn long_frames() -> Vec<u8> {
 }
 
 /// 64 vectors of idles, then low power idle.
-fn low_power() -> Vec<u8> {
-    [lists::idle().repeat(64), lists::low_power().repeat(BLOCKS - 64)].concat()
+fn low_power() -> Traffic {
+    let vectors = [lists::idle().repeat(64), lists::low_power().repeat(BLOCKS - 64)].concat();
+    Traffic { name: "low power idle", vectors, line: None }
 }
 
 /// 64 vectors of idles, then frames back to back: Start and preamble, octets, Terminate and eleven idles, then idles up to a word.
