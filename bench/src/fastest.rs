@@ -1,5 +1,5 @@
-//! The fastest sending and receiving that we found: four blocks at a time, `unsafe`, portable Rust with no vector instructions written out, and compiled
-//! for the same processors as the library. Same contract, nothing proved: a yardstick. What is rare is left to `fast`.
+//! The fastest sending and receiving that we found: four blocks at a time, `unsafe`, in portable Rust with no vector instructions written
+//! out, compiled for the same processors as the library. Same contract, nothing proved: a yardstick. What is rare is left to `fast`.
 use crate::fast::{
     add_counts, decode, encode, put_words, refuse, tables_of, transmit, Fault, Kind, State, Tables, CONTROL, DATA,
     ERRORS, ERROR_PAYLOAD, IDLES, IDLE_PAYLOAD, LOCAL_FAULT, LOW_POWER, LOW_POWER_PAYLOAD, TERMINATES,
@@ -205,8 +205,8 @@ const fn rows() -> [Row; 17] {
     rows
 }
 
-/// What header and type say of a block that is not answered: nothing bad, or that its header or type is, or that its codes decide. The
-/// header is counted as a slip.
+/// What header and type say of a block that is not answered: that its type is bad, that its codes decide, or neither. The index is the
+/// type and then the header. (A bad header is a slip, and counted there.)
 static AT_ONCE: [u8; 1024] = at_once();
 const BAD_TYPE: u8 = 1;
 const CODES: u8 = 2;
@@ -354,6 +354,22 @@ impl Receiver {
         self.answer(decoded, state, out)
     }
 
+    /// The same, by its row where that does: the next state, and whether a frame begins that `rare` did not count.
+    #[inline(always)]
+    unsafe fn answer_by_row(&mut self, data: bool, plain: u64, state: Place, out: *mut u8) -> (Place, u64) {
+        let row = row_at(&ROWS, &ROW_OF, (data as u64) << 8 | plain & 255);
+        let next = row.after >> state;
+        if data && state == D {
+            put(out, 0, plain);
+            (D, 0)
+        } else if plain & row.codes != 0 || next & RARE != 0 {
+            (self.rare(data, plain, state, out), 0)
+        } else {
+            put(out, row.flags, plain & row.same | plain >> 8 & row.lower | row.fixed);
+            (next as Place & 63, row.begins)
+        }
+    }
+
     #[inline(always)]
     unsafe fn answer(&mut self, (kind, flags, octets): (Kind, u8, u64), state: Place, out: *mut u8) -> Place {
         let state = self.take_back(kind, state, out);
@@ -485,19 +501,10 @@ impl Receiver {
                 break;
             } else {
                 for (i, plain) in plain.into_iter().enumerate() {
-                    let data = headers >> (SHIFT as usize + 1 + 2 * i) & 1;
-                    let out = out.add(10 * i);
-                    let row = row_at(&ROWS, &ROW_OF, data << 8 | plain & 255);
-                    let next = row.after >> state;
-                    if data != 0 && state == D {
-                        put(out, 0, plain);
-                    } else if plain & row.codes != 0 || next & RARE != 0 {
-                        state = self.rare(data != 0, plain, state, out);
-                    } else {
-                        put(out, row.flags, plain & row.same | plain >> 8 & row.lower | row.fixed);
-                        begun += row.begins;
-                        state = next as Place & 63;
-                    }
+                    let data = headers >> (SHIFT as usize + 1 + 2 * i) & 1 != 0;
+                    let (next, begins) = self.answer_by_row(data, plain, state, out.add(10 * i));
+                    state = next;
+                    begun += begins;
                 }
             }
             last = fourth;
