@@ -244,6 +244,8 @@ struct Receiver {
 }
 
 const WINDOW: u32 = 19_531;
+/// After so many valid headers in a row the next ones are likely to be valid too.
+const LIKELY: u32 = 8;
 
 impl Receiver {
     /// Header and payload at line bit `at`, of a block that is all there.
@@ -395,8 +397,8 @@ impl Receiver {
         E
     }
 
-    /// While not locked, four blocks at a time, up to where the fourth could give lock or the line may end. Where a block stands depends
-    /// on all headers before it; so that this chain is short, each of the four is read from where it stands without a slip, and the
+    /// While not locked, four blocks at a time, up to where lock is likely or the line may end. Where a block stands depends on all headers
+    /// before it; so that this chain is short, each of the four is read from where it stands without a slip, and the
     /// slips since then say how far to shift.
     #[inline(always)]
     unsafe fn hunt(&mut self) {
@@ -404,7 +406,7 @@ impl Receiver {
         let (mut slips, mut bad_types) = (0, 0);
         let mut last_at = usize::MAX;
         let mut before = self.last << 2;
-        while at + 267 <= 8 * self.bytes && tested < 60 {
+        while at + 8 * GROUP_BYTES <= 8 * self.bytes && tested < LIKELY {
             let from = self.line.add(at / 8);
             let mut shift = at as u64 % 8;
             let (mut seen, mut places) = ([0; 4], [0; 4]);
@@ -452,7 +454,8 @@ impl Receiver {
         }
     }
 
-    /// In lock and the error rate not high: groups of four blocks with valid headers, as far as the window goes.
+    /// Groups of four blocks with valid headers: while not locked as far as lock is not given, in lock as far as the window goes. The error
+    /// rate is not high.
     #[inline(always)]
     unsafe fn groups(&mut self) {
         match self.at % 8 {
@@ -468,14 +471,45 @@ impl Receiver {
     }
 
     /// The same where blocks begin at bit `SHIFT` of a byte: all shifts are then constants.
-    #[inline(never)]
+    #[inline(always)]
     unsafe fn groups_at<const SHIFT: u32>(&mut self) {
+        if self.locked {
+            self.locked_groups::<SHIFT>();
+        } else {
+            self.likely_groups::<SHIFT>();
+        }
+    }
+
+    #[inline(never)]
+    unsafe fn likely_groups<const SHIFT: u32>(&mut self) {
+        while self.tested < 60 && self.at + 8 * GROUP_BYTES <= 8 * self.bytes {
+            let group = Group::<SHIFT>::at(self.line.add(self.at / 8));
+            let headers = group.headers();
+            if !Group::<SHIFT>::valid(headers) {
+                break;
+            }
+            let (plain, fourth) = group.plain(self.last);
+            for (i, plain) in plain.into_iter().enumerate() {
+                if headers >> (SHIFT as usize + 2 * i) & 1 == CONTROL {
+                    self.look_at_codes(plain);
+                }
+            }
+            self.last = fourth;
+            put_four(self.out, &FOUR_LOCAL_FAULT);
+            self.out = self.out.add(40);
+            self.at += 264;
+            self.tested += 4;
+        }
+    }
+
+    #[inline(never)]
+    unsafe fn locked_groups<const SHIFT: u32>(&mut self) {
         let mut from = self.line.add(self.at / 8);
         let end = self.line.add(self.bytes);
         let room = (WINDOW - 1 - self.window) / 4;
         let mut left = room;
         let (mut last, mut state, mut out, mut begun) = (self.last, self.state, self.out, 0);
-        while left > 0 && end.offset_from(from) >= 34 {
+        while left > 0 && end.offset_from(from) >= GROUP_BYTES as isize {
             let group = Group::<SHIFT>::at(from);
             let headers = group.headers();
             let (plain, fourth) = group.plain(last);
@@ -524,7 +558,10 @@ impl Receiver {
     }
 }
 
-/// The 34 bytes that four blocks lie in which begin at bit `SHIFT` of the first: block i begins at bit `SHIFT` + 2 i of word i.
+/// Four blocks lie in so many bytes, wherever in the first they begin.
+const GROUP_BYTES: usize = 34;
+
+/// Four blocks that begin at bit `SHIFT` of a byte: block i begins at bit `SHIFT` + 2 i of word i.
 struct Group<const SHIFT: u32> {
     words: [u64; 5],
 }
@@ -607,10 +644,13 @@ pub fn receive(edition: u64, line: &[u8], vectors: &mut [u8], summary: &mut [u8]
     // Safety: a block is read only where 66 bits of the line are left, and there are no more blocks than vectors that fit the room.
     let tested = unsafe {
         while r.at + 66 <= bits {
-            if !r.locked {
-                r.hunt();
-            } else if !r.high {
-                r.groups();
+            if r.at + 8 * GROUP_BYTES <= bits {
+                if !r.locked {
+                    r.hunt();
+                }
+                if !r.high && (r.locked || r.tested >= LIKELY) {
+                    r.groups();
+                }
             }
             if r.at + 66 <= bits {
                 r.one();
