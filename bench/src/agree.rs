@@ -143,23 +143,24 @@ fn receiving_line(edition: Edition, line: &Line, random: &mut Random) {
     same_received(number(edition, random), &line, room, summary, random.counters(counters));
 }
 
-/// Invalid headers in one window after the other: 16 set `high`, and the end of a window with fewer clears it.
-const INVALID: [usize; 5] = [16, 15, 16, 16, 0];
+/// Invalid headers in one window after the other: 16 set `high`, and the end of a window with fewer clears it. In the second line `high`
+/// is never set, as the end of a window forgets what it counted.
+const INVALID: [[usize; 5]; 2] = [[16, 15, 16, 16, 0], [15; 5]];
 
-/// A line over whole windows, each with so many invalid headers, from its first block on or from its last block back; too far apart to
-/// lose lock. `high` is looked at where a window ends: its last block is already answered by it.
-fn receiving_windows(edition: Edition, from_last: bool, random: &mut Random) {
+/// Where the n-th stands in window i: from its first block on, inside, or from its last block back; too far apart to lose lock.
+type Place = fn(usize, usize) -> usize;
+const PLACES: [Place; 3] = [|_, n| 1_000 * n, |i, n| 500 + i + 1_000 * n, |_, n| WINDOW as usize - 1 - 1_000 * n];
+
+/// A line over whole windows. `high` is looked at where a window ends: its last block is already answered by it.
+fn receiving_windows(edition: Edition, invalid: [usize; 5], place: Place, random: &mut Random) {
     let window = WINDOW as usize;
-    let mut line = Line::of_blocks(&vec![idle(); 64 + INVALID.len() * window + 4], random.start_state());
-    for (i, invalid) in INVALID.into_iter().enumerate() {
-        for n in 0..invalid {
-            let place = if from_last { window - 1 - 1_000 * n } else { 1_000 * n };
-            line.spoil_header(64 + i * window + place);
-        }
+    let mut line = Line::of_blocks(&vec![idle(); 64 + invalid.len() * window + 4], random.start_state());
+    for (i, invalid) in invalid.into_iter().enumerate() {
+        (0..invalid).for_each(|n| line.spoil_header(64 + i * window + place(i, n)));
     }
     let line = line.bytes();
     let (vectors, _) = library::received(edition, &line);
-    for (i, invalid) in INVALID.into_iter().enumerate() {
+    for (i, invalid) in invalid.into_iter().enumerate() {
         let last = 64 + (i + 1) * window - 1;
         let high = vectors[10 * last..10 * last + 10] == LOCAL_FAULT;
         assert_eq!(high, invalid == 16, "high at the end of window {i}");
@@ -170,8 +171,8 @@ fn receiving_windows(edition: Edition, from_last: bool, random: &mut Random) {
 }
 
 fn check_in(edition: Edition, random: &mut Random) {
-    for from_last in [false, true] {
-        receiving_windows(edition, from_last, random);
+    for invalid in INVALID {
+        PLACES.into_iter().for_each(|place| receiving_windows(edition, invalid, place, random));
     }
     for _ in 0..4 {
         long(edition, random);

@@ -23,37 +23,38 @@ const fn place(state: State) -> Place {
     8 * state as Place
 }
 
-/// Marks a next state that is not reached by answering the block as it is: `E`, or any where the Terminate before is taken back.
+/// Marks a next state `E`: the block is not answered as it is. So it is too where a Terminate is taken back.
 const RARE: u64 = 0x40;
 
-/// The state after each state for a kind, a byte each. In receiving a Terminate is accepted at once, and taken back by what follows.
-const fn after(kind: Kind, receiving: bool) -> u64 {
+/// The state after each state for a kind, a byte each.
+const fn all_after(kind: Kind) -> u64 {
     let (mut all, mut i) = (0, 0);
     while i < STATES.len() {
-        let back = receiving && matches!(STATES[i], State::T) && takes_back(kind);
-        let next = transmit(if back { State::E } else { STATES[i] }, kind);
-        let rare = if back || matches!(next, State::E) { RARE } else { 0 };
+        let next = transmit(STATES[i], kind);
+        let rare = if matches!(next, State::E) { RARE } else { 0 };
         all |= (place(next) as u64 | rare) << (8 * i);
         i += 1;
     }
     all
 }
 
+/// The same by the number of the kind.
+const AFTER: [u64; 6] = [
+    all_after(Kind::D),
+    all_after(Kind::C),
+    all_after(Kind::S),
+    all_after(Kind::T),
+    all_after(Kind::E),
+    all_after(Kind::LI),
+];
+
+/// In receiving, Terminate is accepted at once, and taken back where a block of such a kind follows.
 const fn takes_back(kind: Kind) -> bool {
     !matches!(kind, Kind::S | Kind::C | Kind::LI)
 }
 
 /// Of a row that nothing is answered by.
 const ALL_RARE: u64 = 0x4040_4040_4040_4040;
-
-const AFTER_SENT: [u64; 6] = [
-    after(Kind::D, false),
-    after(Kind::C, false),
-    after(Kind::S, false),
-    after(Kind::T, false),
-    after(Kind::E, false),
-    after(Kind::LI, false),
-];
 
 // ---- memory
 
@@ -179,7 +180,7 @@ const fn row_of() -> [u8; 512] {
 
 const fn row(kind: Kind, flags: u64, codes: u64, same: u64, lower: u64, fixed: u64) -> Row {
     let begins = matches!(kind, Kind::S) as u64;
-    Row { codes, same, lower, fixed, after: after(kind, true), flags, begins }
+    Row { codes, same, lower, fixed, after: AFTER[kind as usize], flags, begins }
 }
 
 const fn rows() -> [Row; 17] {
@@ -693,19 +694,18 @@ const NO_FORMAT: u8 = 12;
 static SEND_ROW_OF: [u8; 512] = send_row_of();
 
 const fn send_rows() -> [SendRow; 13] {
-    let [same, higher, others, fixed, type_byte, header, after] =
-        [0, 0, 0, 0, 0, CONTROL, AFTER_SENT[Kind::E as usize]];
+    let [same, higher, others, fixed, type_byte, header, after] = [0, 0, 0, 0, 0, CONTROL, AFTER[Kind::E as usize]];
     let no_format = SendRow { same, higher, others, fixed, type_byte, header, after };
     let mut rows = [no_format; 13];
-    rows[0] = SendRow { same: !0, header: DATA, after: AFTER_SENT[Kind::D as usize], ..no_format };
-    rows[1] = SendRow { others: !0, fixed: IDLES, type_byte: 0x1e, after: AFTER_SENT[Kind::C as usize], ..no_format };
-    let (start, after) = (0xff, AFTER_SENT[Kind::S as usize]);
+    rows[0] = SendRow { same: !0, header: DATA, after: AFTER[Kind::D as usize], ..no_format };
+    rows[1] = SendRow { others: !0, fixed: IDLES, type_byte: 0x1e, after: AFTER[Kind::C as usize], ..no_format };
+    let (start, after) = (0xff, AFTER[Kind::S as usize]);
     rows[2] = SendRow { same: !start, others: start, fixed: 0xfb, type_byte: 0x78, after, ..no_format };
     let mut k = 0;
     while k < 8 {
         let (higher, others) = (!(!0 << (8 * k)) << 8, !0 << (8 * k));
         let (fixed, type_byte) = (0x0707_0707_0707_07fd << (8 * k), TERMINATES[k]);
-        let after = AFTER_SENT[Kind::T as usize];
+        let after = AFTER[Kind::T as usize];
         rows[3 + k] = SendRow { same: 0, higher, others, fixed, type_byte, header: CONTROL, after };
         k += 1;
     }
@@ -735,10 +735,10 @@ const fn send_row_of() -> [u8; 512] {
 #[inline(never)]
 fn encode_closely(tables: &Tables, flags: u64, octets: u64) -> (u64, u64, u64) {
     if tables.low_power && flags == 0xff && octets == LOW_POWER {
-        return (CONTROL, LOW_POWER_PAYLOAD, AFTER_SENT[Kind::LI as usize]);
+        return (CONTROL, LOW_POWER_PAYLOAD, AFTER[Kind::LI as usize]);
     }
     let (kind, plain) = encode(tables, flags, octets).unwrap_or((Kind::E, ERROR_PAYLOAD));
-    (CONTROL, plain, AFTER_SENT[kind as usize])
+    (CONTROL, plain, AFTER[kind as usize])
 }
 
 /// Header and payload of the error block. Cold: a branch to it that is foreseen is cheaper than a choice.
