@@ -748,9 +748,12 @@ fn error() -> (u64, u64) {
     (CONTROL, ERROR_PAYLOAD)
 }
 
-/// What sending carries from block to block.
+/// What sending carries from block to block: where the next vectors are, where the last ones end, where the next blocks go.
 struct Sender {
     tables: &'static Tables,
+    from: *const u8,
+    end: *const u8,
+    out: *mut u8,
     last: u64,
     state: Place,
     replaced: u64,
@@ -780,6 +783,39 @@ impl Sender {
         (header, self.scrambled(plain))
     }
 
+    /// Four vectors of any kind.
+    #[inline(always)]
+    unsafe fn four(&mut self) {
+        let blocks = [0, 1, 2, 3].map(|i| self.block(vector_at(self.from.add(10 * i))));
+        self.put(blocks.map(|block| block.0), blocks.map(|block| block.1));
+    }
+
+    /// Four vectors that are as `goes_on` says, which keep the state, and all groups after them that are so too.
+    #[inline(always)]
+    unsafe fn stretch(&mut self, header: u64, goes_on: impl Fn(*const u8) -> bool, payload: impl Fn(*const u8) -> u64) {
+        let mut stretch = Stretch::after(self.last);
+        loop {
+            let payloads = [0, 1, 2, 3].map(|i| stretch.scrambled(payload(self.from.add(10 * i))));
+            self.put([header; 4], payloads);
+            if self.from == self.end || !goes_on(self.from) {
+                break;
+            }
+        }
+        self.last = stretch.last;
+    }
+
+    /// Four blocks: block i begins at bit 2 i of word i.
+    #[inline(always)]
+    unsafe fn put(&mut self, [h0, h1, h2, h3]: [u64; 4], [p0, p1, p2, p3]: [u64; 4]) {
+        store64(self.out, h0 | p0 << 2);
+        store64(self.out.add(8), p0 >> 62 | h1 << 2 | p1 << 4);
+        store64(self.out.add(16), p1 >> 60 | h2 << 4 | p2 << 6);
+        store64(self.out.add(24), p2 >> 58 | h3 << 6 | p3 << 8);
+        *self.out.add(32) = (p3 >> 56) as u8;
+        self.from = self.from.add(40);
+        self.out = self.out.add(33);
+    }
+
     /// Of 64 bits the first 39 depend on those before alone, and the others on the first 25 besides.
     #[inline(always)]
     fn scrambled(&mut self, plain: u64) -> u64 {
@@ -796,12 +832,14 @@ unsafe fn vector_at(from: *const u8) -> (u64, u64) {
     (flags, load32(from.add(1)) | load32(from.add(6)) << 32)
 }
 
+/// Are four vectors data?
 #[inline(always)]
 unsafe fn is_data(from: *const u8) -> bool {
     let controls = |i: usize| *from.add(i) | *from.add(i + 5) | *from.add(i + 10) | *from.add(i + 15);
     controls(0) | controls(20) == 0
 }
 
+/// Are four vectors these?
 #[inline(always)]
 unsafe fn is_four(from: *const u8, four: &[u64; 5]) -> bool {
     load64(from) == four[0] && (1..5).fold(0, |differ, i| differ | load64(from.add(8 * i)) ^ four[i]) == 0
@@ -829,39 +867,6 @@ impl Stretch {
         *self = Stretch { last: sent, last_but_one: self.last, plain };
         sent
     }
-}
-
-/// Groups of data, or of four equal vectors that leave the state as it is.
-#[inline(always)]
-unsafe fn send_stretch(
-    last: u64,
-    header: u64,
-    mut from: *const u8,
-    end: *const u8,
-    mut out: *mut u8,
-    goes_on: impl Fn(*const u8) -> bool,
-    payload: impl Fn(*const u8) -> u64,
-) -> (u64, *const u8, *mut u8) {
-    let mut stretch = Stretch::after(last);
-    loop {
-        let payloads = [0, 1, 2, 3].map(|i| stretch.scrambled(payload(from.add(10 * i))));
-        put_group(out, [header; 4], payloads);
-        from = from.add(40);
-        out = out.add(33);
-        if from == end || !goes_on(from) {
-            return (stretch.last, from, out);
-        }
-    }
-}
-
-/// Four blocks: block i begins at bit 2 i of word i.
-#[inline(always)]
-unsafe fn put_group(out: *mut u8, [h0, h1, h2, h3]: [u64; 4], [p0, p1, p2, p3]: [u64; 4]) {
-    store64(out, h0 | p0 << 2);
-    store64(out.add(8), p0 >> 62 | h1 << 2 | p1 << 4);
-    store64(out.add(16), p1 >> 60 | h2 << 4 | p2 << 6);
-    store64(out.add(24), p2 >> 58 | h3 << 6 | p3 << 8);
-    *out.add(32) = (p3 >> 56) as u8;
 }
 
 /// Is a control byte above 15? The five words of each group are joined; eight of their bytes are control bytes.
@@ -896,46 +901,26 @@ pub fn send(edition: u64, vectors: &[u8], start: u64, line: &mut [u8], summary: 
         let word = vectors.chunks_exact(5).position(|word| word[0] > 15).unwrap_or(0);
         return refuse(summary, 3, 5, 5 * word);
     }
-    let mut sender = Sender { tables, last: start.reverse_bits(), state: INIT, replaced: 0 };
-    let (mut from, mut out) = (vectors.as_ptr(), line.as_mut_ptr());
+    let range = vectors.as_ptr_range();
+    let (from, end, out) = (range.start, range.end, line.as_mut_ptr());
+    let mut s = Sender { tables, from, end, out, last: start.reverse_bits(), state: INIT, replaced: 0 };
     // Safety: there are whole groups of four vectors, and room for each.
     unsafe {
-        let end = from.add(vectors.len());
-        while from != end {
-            if (sender.state == D || sender.state == E) && is_data(from) {
-                sender.state = D;
-                (sender.last, from, out) = send_stretch(
-                    sender.last,
-                    DATA,
-                    from,
-                    end,
-                    out,
-                    |f| is_data(f),
-                    |f| load32(f.add(1)) | load32(f.add(6)) << 32,
-                );
-            } else if sender.state != D && is_four(from, &FOUR_IDLE) {
-                sender.state = C;
-                (sender.last, from, out) =
-                    send_stretch(sender.last, CONTROL, from, end, out, |f| is_four(f, &FOUR_IDLE), |_| IDLE_PAYLOAD);
-            } else if sender.state == LI && is_four(from, &FOUR_LOW_POWER) {
-                (sender.last, from, out) = send_stretch(
-                    sender.last,
-                    CONTROL,
-                    from,
-                    end,
-                    out,
-                    |f| is_four(f, &FOUR_LOW_POWER),
-                    |_| LOW_POWER_PAYLOAD,
-                );
+        while s.from != s.end {
+            if (s.state == D || s.state == E) && is_data(s.from) {
+                s.state = D;
+                s.stretch(DATA, |f| is_data(f), |f| vector_at(f).1);
+            } else if s.state != D && is_four(s.from, &FOUR_IDLE) {
+                s.state = C;
+                s.stretch(CONTROL, |f| is_four(f, &FOUR_IDLE), |_| IDLE_PAYLOAD);
+            } else if s.state == LI && is_four(s.from, &FOUR_LOW_POWER) {
+                s.stretch(CONTROL, |f| is_four(f, &FOUR_LOW_POWER), |_| LOW_POWER_PAYLOAD);
             } else {
-                let blocks = [0, 1, 2, 3].map(|i| sender.block(vector_at(from.add(10 * i))));
-                put_group(out, blocks.map(|block| block.0), blocks.map(|block| block.1));
-                from = from.add(40);
-                out = out.add(33);
+                s.four();
             }
         }
     }
-    let state = sender.last.reverse_bits() & ((1 << 58) - 1);
-    put_words(summary, &[state, sender.state as u64 / 8, sender.replaced]);
+    let state = s.last.reverse_bits() & ((1 << 58) - 1);
+    put_words(summary, &[state, s.state as u64 / 8, s.replaced]);
     0
 }
