@@ -6,7 +6,6 @@ SLOTS = 'dciost'
 NAMES = ['data', 'control characters', 'control characters other than 1e', 'ordered sets', 'Start', 'Terminate']
 WIDTH = dict(d=8, c=7, i=7, o=4, s=0, t=0)
 OCTETS_FROM = dict(d=0, c=256, i=384, o=512, s=528, t=529)
-CODES_FROM = dict(d=0, c=256, i=512, o=768, s=1024, t=1280)
 
 
 def run(slot, first, count):
@@ -37,25 +36,15 @@ def octet(slot, v):
     return {c: o for o, c in table}.get(v, missing)
 
 
-def code(slot, o):
-    if slot in 'dst':
-        return o if slot == 'd' else 0 if o == octet(slot, 0) else 256
-    table, missing = {'c': (CONTROLS, 256), 'i': (CALM, 256), 'o': (SETS, 512)}[slot]
-    return dict(table).get(o, missing)
-
-
 types = [16] * 256
 for r, (kind, lead, y, fields) in enumerate(ROWS):
     if r:
         types[y] = r
-shift, mask, base, lane, start, at, low, high = [], [], [], [], [], [], [], []
+shift, mask, base, low, high = [], [], [], [], []
 for kind, lead, y, fields in ROWS:
     found, place = {}, lead
     for slot, char, bits in fields:
         found[char] = (slot, place)
-        lane.append(8 * char)
-        start.append(CODES_FROM[slot])
-        at.append(place % 64)
         place += bits
     assert place == 64
     for char in range(8):
@@ -65,7 +54,6 @@ for kind, lead, y, fields in ROWS:
         base.append(OCTETS_FROM[slot])
     low.append(sum((found[p][0] != 'd') << p for p in range(4)))
     high.append(sum((found[p + 4][0] != 'd') << p for p in range(4)))
-flags = [a + 16 * b for a, b in zip(low, high)]
 notes = {'the octets of ' + name: note for name, note in zip(NAMES, ['', ' // control code %02x', ' // in type 1e control code %02x', ' // ordered set code %x', '', '']) if note}
 decode = [('the octets of ' + name, [octet(s, v) for v in range(2 ** WIDTH[s])]) for s, name in zip(SLOTS, NAMES)]
 decode += [('for each character of each row: the place of its field', shift),
@@ -73,13 +61,6 @@ decode += [('for each character of each row: the place of its field', shift),
            ('where the octets of its slot begin', base),
            ('for each row: its first control byte', low),
            ('its second control byte', high)]
-encode = [('the codes of ' + name, [code(s, o) for o in range(256)]) for s, name in zip(SLOTS, NAMES)]
-encode += [('for each field of each row: where its octet stands among eight', lane),
-           ('where the codes of its slot begin', start),
-           ('its place', at),
-           ('for each row: its type', [r[2] for r in ROWS]),
-           ('for each pair of control bytes: the first row that has them', [(flags + [m]).index(m) for m in range(256)]),
-           ('for each row: the next with its control bytes', [r + 1 + (flags[r + 1:] + [flags[r]]).index(flags[r]) for r in range(16)])]
 
 print('// The tables, as tools/tables.py prints them. Each is compared with its rule.')
 print()
@@ -88,14 +69,13 @@ print('pub const TYPES: [u8; 256] = [')
 for y, r in enumerate(types):
     print('    %d, // %02x' % (r, y))
 print('];')
-for const, purpose, parts in [('DECODE', 'decoding', decode), ('ENCODE', 'encoding', encode)]:
-    print()
-    print('// The tables for %s, one after the other.' % purpose)
-    print('pub const %s: [u16; %d] = [' % (const, sum(len(values) for _, values in parts)))
-    place = 0
-    for name, values in parts:
-        print('    // %d: %s' % (place, name))
-        for i, value in enumerate(values):
-            print('    %d,' % value + (notes[name] % i if name in notes else ''))
-        place += len(values)
-    print('];')
+print()
+print('// The tables for decoding, one after the other.')
+print('pub const DECODE: [u16; %d] = [' % sum(len(values) for _, values in decode))
+place = 0
+for name, values in decode:
+    print('    // %d: %s' % (place, name))
+    for i, value in enumerate(values):
+        print('    %d,' % value + (notes[name] % i if name in notes else ''))
+    place += len(values)
+print('];')

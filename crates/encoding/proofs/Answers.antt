@@ -38,11 +38,6 @@ unfolding carrier kindFor
 idle-coded₀ Old = refl
 idle-coded₀ New = refl
 
--- eight low power idles, in the newer edition
-low-coded₀ : record { kind = LI; header = 1; payload = 0x0c183060c183061e } ≡ codedOf (carrier New (twoWords 15 0x06060606 15 0x06060606))
-unfolding carrier kindFor
-low-coded₀ = refl
-
 module _ (v : List ℕ) (l : length v ≡ 10) where
   -- the vector by the words that are read from it
   pub read-words : ((n : ℕ) → getD v n 0 < 256) → twoWords (getD v 0 0) (lanesAt v 1) (getD v 5 0) (lanesAt v 6) ≡ v
@@ -99,15 +94,6 @@ module _ (ed : Edition) where
       let y : 0x07070707 ≡ d1 = omega arith in
       idle-coded₀ ed ∙ (λ i. codedOf (carrier ed (twoWords (a i) (x i) (b i) (y i))))
 
-  pub low-coded : ed ≡ New → (c0 d0 c1 d1 : ℕ) → c0 ≤ 15 → c1 ≤ 15 → d0 < 2 ^ 32 → c0 + 16 * c1 ≡ 255 → d0 + d1 * 4294967296 ≡ 0x0606060606060606
-      → record { kind = LI; header = 1; payload = 0x0c183060c183061e } ≡ codedOf (carrier ed (twoWords c0 d0 c1 d1))
-  low-coded n c0 d0 c1 d1 u w h e q =
-      let a : 15 ≡ c0 = omega arith in
-      let b : 15 ≡ c1 = omega arith in
-      let x : 0x06060606 ≡ d0 = omega arith in
-      let y : 0x06060606 ≡ d1 = omega arith in
-      low-coded₀ ∙ (λ i. codedOf (carrier (sym n i) (twoWords (a i) (x i) (b i) (y i))))
-
   -- ---- one vector by itself
 
   -- the two checks, by the offset of the first control byte above 15
@@ -146,7 +132,7 @@ module _ (ed : Edition) where
         go (block E h x) e = absurd (carrier-kind ed w E h x e refl)
 
     pub good-answer : (z : Encoded) (c : Coded) (d0 d1 : ℕ) → ((n : ℕ) → getD v n 0 < 256) → getD v 0 0 ≤ 15 → getD v 5 0 ≤ 15
-        → d0 ≡ lanesAt v 1 → d1 ≡ lanesAt v 6 → (lent : Edition) → lent ≡ ed → c ≡ codedOf (carrier lent (twoWords (getD v 0 0) d0 (getD v 5 0) d1)) → z ≡ encodedOf c → answerOf z ≡ encodeAnswer ed v
-    good-answer z c d0 d1 b h k p q lent l′ r s =
-        ap answerOf (s ∙ ap encodedOf (r ∙ ap codedOf (ap₂ carrier l′ (ap₂ (λ (x y : ℕ). twoWords (getD v 0 0) x (getD v 5 0) y) p q ∙ read-words v l b))))
+        → d0 ≡ lanesAt v 1 → d1 ≡ lanesAt v 6 → c ≡ codedOf (carrier ed (twoWords (getD v 0 0) d0 (getD v 5 0) d1)) → z ≡ encodedOf c → answerOf z ≡ encodeAnswer ed v
+    good-answer z c d0 d1 b h k p q r s =
+        ap answerOf (s ∙ ap encodedOf (r ∙ ap codedOf (ap (carrier ed) (ap₂ (λ (x y : ℕ). twoWords (getD v 0 0) x (getD v 5 0) y) p q ∙ read-words v l b))))
         ∙ given v ∙ both-low h k

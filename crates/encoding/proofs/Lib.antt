@@ -1,3 +1,4 @@
+pub mod Told
 pub mod Fields
 pub mod Packing
 pub mod Choosing

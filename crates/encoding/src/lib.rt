@@ -3,14 +3,15 @@ ghost use mathlib.Core.Path.{_≡_};
 ghost use mathlib.Core.List.{List};
 ghost use Prim.Native.Nat.{_+_, _*_, _<_, _≤_, _^_};
 ghost use lib.ListN.{length};
-ghost use Rattle.block.specs.Block.{twoWords, carrier, encodeAnswer};
+ghost use Rattle.block.specs.Block.{Control, codeOf, twoWords, carrier, encodeAnswer};
 ghost use Rattle.block.specs.Rows.{row, SameFlags};
-ghost use Rattle.tables.specs.Tables.{editionIn, LentToEncode, fieldIn, placeIn};
 ghost use Rattle.encoding.specs.Answer.{codedOf, answerOf};
-ghost use Rattle.encoding.specs.Parts.{spread, fieldCode, sumBy, lanesAt, encodedOf};
+ghost use Rattle.encoding.specs.Parts.{spread, slotOf, fieldIn, fieldCode, placeIn, sumBy, lanesAt, encodedOf};
 use block::Edition;
 use block::Kind;
 use refusals::Refusal;
+
+mod rows;
 
 // The block of a vector. A vector that no block carries is of kind E, with the block that is sent in state E.
 pub struct Coded {
@@ -32,44 +33,86 @@ struct Sum {
     payload: u64,
 }
 
-// The code of field i of row r for its octet of the eight, not below 256 where it has none.
-fn field_code(t: &[u16; 2208], r: usize, i: usize, lanes: u64) -> u16
-    requires { ⌜ (r < 16) × (i < 8) × LentToEncode (now t) ⌝ }
-    ensures { λ z. ⌜ z ≡ fieldCode (editionIn (now (t .entry))) r i lanes ⌝ }
+// The code of a control character, 256 where the edition has none.
+fn control_code(edition: Edition, octet: u64) -> u64
+    requires { ⌜ octet < 256 ⌝ }
+    ensures { λ z. ⌜ z ≡ codeOf edition Control octet ⌝ }
 {
-    let k = 8 * r + i;
-    let lane = t[tables::LANE + k];
-    let from = t[tables::FROM + k];
-    let octet = (lanes >> lane) % 256;
-    t[from as usize + octet as usize]
+    match octet {
+        0x06 => match edition {
+            Edition::Old => 256,
+            Edition::New => 0x06,
+        },
+        0x07 => 0x00,
+        0x1c => 0x2d,
+        0x3c => 0x33,
+        0x7c => 0x4b,
+        0xbc => 0x55,
+        0xdc => 0x66,
+        0xf7 => 0x78,
+        0xfe => 0x1e,
+        _ => 256,
+    }
+}
+
+// The code of an octet in a slot, not below 256 where it has none.
+fn code_of(edition: Edition, slot: u64, octet: u64) -> u64
+    requires { ⌜ octet < 256 ⌝ }
+    ensures { λ z. ⌜ z ≡ codeOf edition (slotOf slot) octet ⌝ }
+{
+    match slot {
+        0 => octet,
+        1 => control_code(edition, octet),
+        2 => if octet == 0xfe {
+            256
+        } else {
+            control_code(edition, octet)
+        },
+        3 => match octet {
+            0x5c => 15,
+            0x9c => 0,
+            _ => 512,
+        },
+        4 => if octet == 0xfb { 0 } else { 256 },
+        _ => if octet == 0xfd { 0 } else { 256 },
+    }
+}
+
+// The code of field i of row r for its octet of the eight, not below 256 where it has none.
+fn field_code(edition: Edition, r: usize, i: usize, lanes: u64) -> u64
+    requires { ⌜ (r < 16) × (i < 8) ⌝ }
+    ensures { λ z. ⌜ z ≡ fieldCode edition r i lanes ⌝ }
+{
+    let field = (rows::fields_of(r) >> (8 * i)) % 256;
+    let octet = (lanes >> (8 * (field % 8))) % 256;
+    code_of(edition, field / 8, octet)
 }
 
 // A code at the place of field i of row r.
-fn placed(t: &[u16; 2208], r: usize, i: usize, code: u64) -> u64
-    requires { ⌜ (r < 16) × (i < 8) × (code < 2 ^ fieldIn r i .bits) × LentToEncode (now t) ⌝ }
+fn placed(r: usize, i: usize, code: u64) -> u64
+    requires { ⌜ (r < 16) × (i < 8) × (code < 2 ^ fieldIn r i .bits) ⌝ }
     ensures { λ z. ⌜ z ≡ 2 ^ placeIn r i * code ⌝ }
 {
-    let k = 8 * r + i;
-    let place = t[tables::PLACE + k];
+    let place = (rows::places_of(r) >> (8 * i)) % 64;
     code << place
 }
 
 // The payload of row r, whose control bits are the vector's; c0 and c1 say which vector the lanes belong to.
-fn pack(t: &[u16; 2208], r: usize, c0: u8, c1: u8, lanes: u64) -> Sum
-    requires { ⌜ (r < 16) × SameFlags (spread c0 c1 lanes) (row r) × LentToEncode (now t) ⌝ }
-    ensures { λ z. ⌜ z ≡ sumBy (editionIn (now (t .entry))) (spread c0 c1 lanes) (row r) ⌝ }
+fn pack(edition: Edition, r: usize, c0: u8, c1: u8, lanes: u64) -> Sum
+    requires { ⌜ (r < 16) × SameFlags (spread c0 c1 lanes) (row r) ⌝ }
+    ensures { λ z. ⌜ z ≡ sumBy edition (spread c0 c1 lanes) (row r) ⌝ }
 {
-    let mut payload = t[tables::TYPE + r] as u64;
+    let mut payload = rows::type_of(r);
     let mut i = 0;
     while i < 8 {
-        let code = field_code(t, r, i, lanes);
+        let code = field_code(edition, r, i, lanes);
         if 256 <= code {
             return Sum {
                 fits: false,
                 payload: 0,
             };
         }
-        payload = payload + placed(t, r, i, code as u64);
+        payload = payload + placed(r, i, code);
         i = i + 1;
     }
     Sum {
@@ -79,14 +122,13 @@ fn pack(t: &[u16; 2208], r: usize, c0: u8, c1: u8, lanes: u64) -> Sum
 }
 
 // A vector with a control character: the rows with its control bits are tried one after the other.
-fn encode_rows(t: &[u16; 2208], c0: u8, c1: u8, lanes: u64) -> Coded
-    requires { ⌜ (c0 ≤ 15) × (c1 ≤ 15) × (0 < c0 + 16 * c1) × LentToEncode (now t) ⌝ }
-    ensures { λ z. ⌜ z ≡ codedOf (carrier (editionIn (now (t .entry))) (spread c0 c1 lanes)) ⌝ }
+fn encode_rows(edition: Edition, c0: u8, c1: u8, lanes: u64) -> Coded
+    requires { ⌜ (c0 ≤ 15) × (c1 ≤ 15) × (0 < c0 + 16 * c1) ⌝ }
+    ensures { λ z. ⌜ z ≡ codedOf (carrier edition (spread c0 c1 lanes)) ⌝ }
 {
-    let m = c0 as usize + 16 * (c1 as usize);
-    let mut r = t[tables::FIRST + m] as usize;
+    let mut r = rows::first_row(c0 as u64 + 16 * (c1 as u64));
     while r < 16 {
-        let s = pack(t, r, c0, c1, lanes);
+        let s = pack(edition, r, c0, c1, lanes);
         if s.fits {
             return Coded {
                 kind: tables::kind_of(
@@ -100,7 +142,7 @@ fn encode_rows(t: &[u16; 2208], c0: u8, c1: u8, lanes: u64) -> Coded
                 payload: s.payload,
             };
         }
-        r = t[tables::NEXT + r] as usize;
+        r = rows::next_row(r);
     }
     Coded {
         kind: Kind::E,
@@ -109,10 +151,10 @@ fn encode_rows(t: &[u16; 2208], c0: u8, c1: u8, lanes: u64) -> Coded
     }
 }
 
-// A vector as two words: control bytes and lanes, lane 0 lowest. The tables are those of the crate tables.
-pub fn encode(t: &[u16; 2208], c0: u8, d0: u32, c1: u8, d1: u32) -> Coded
-    requires { ⌜ (c0 ≤ 15) × (c1 ≤ 15) × LentToEncode (now t) ⌝ }
-    ensures { λ r. ⌜ r ≡ codedOf (carrier (editionIn (now (t .entry))) (twoWords c0 d0 c1 d1)) ⌝ }
+// A vector as two words: control bytes and lanes, lane 0 lowest.
+pub fn encode(edition: Edition, c0: u8, d0: u32, c1: u8, d1: u32) -> Coded
+    requires { ⌜ (c0 ≤ 15) × (c1 ≤ 15) ⌝ }
+    ensures { λ r. ⌜ r ≡ codedOf (carrier edition (twoWords c0 d0 c1 d1)) ⌝ }
 {
     let lanes = d0 as u64 + d1 as u64 * 4294967296;
     let m = c0 as u64 + 16 * (c1 as u64);
@@ -132,18 +174,8 @@ pub fn encode(t: &[u16; 2208], c0: u8, d0: u32, c1: u8, d1: u32) -> Coded
                 payload: 0x1e,
             };
         }
-        // eight low power idles, if the edition has them
-        if lanes == 0x0606060606060606 {
-            if t[tables::LOW_POWER] < 256 {
-                return Coded {
-                    kind: Kind::LI,
-                    header: 1,
-                    payload: 0x0c183060c183061e,
-                };
-            }
-        }
     }
-    encode_rows(t, c0, c1, lanes)
+    encode_rows(edition, c0, c1, lanes)
 }
 
 fn wide(x: u8) -> u32
@@ -189,8 +221,7 @@ pub fn encode_vector(edition: Edition, v: &[u8]) -> Encoded
     if 15 < c1 {
         return Encoded::Refused(Refusal::ControlByte, 5);
     }
-    let t = tables::encode_tables(edition);
     let d0 = lanes_at(v, 1);
     let d1 = lanes_at(v, 6);
-    answer(encode(&t, c0, d0, c1, d1))
+    answer(encode(edition, c0, d0, c1, d1))
 }

@@ -54,9 +54,3 @@ low bytes high z e l i =
     let o : 0 + 5 * i ≡ 5 * i = zero-add (5 * i) in
     rw o at (low-word (length bytes / 5) 0 bytes (omega arith) i m))
     (λ m. omega (arith, List·getD-eq-default bytes 0 {n = 5 * i} (omega arith)))
-
-pub low-at : (bytes : List ℕ) (at k : ℕ) → Low bytes → at % 5 ≡ 0 → (getD bytes (at + 10 * k) 0 ≤ 15) × (getD bytes (at + 10 * k + 5) 0 ≤ 15)
-low-at bytes at k h z =
-    let a : 5 * (at / 5 + 2 * k) ≡ at + 10 * k = omega arith in
-    let b : 5 * (at / 5 + 2 * k + 1) ≡ at + 10 * k + 5 = omega arith in
-    (rw a at (h (at / 5 + 2 * k)), rw b at (h (at / 5 + 2 * k + 1)))

@@ -8,9 +8,9 @@ use lib.Seq.{getD-take, getD-drop}
 use borrow.Author.Tests.{lt-ltb}
 use Rattle.block.specs.declared.Edition.{Edition}
 use Rattle.block.specs.declared.Edition.the-variants.{Old, New}
-use Rattle.block.specs.Block.{Slot, Control, Calm, Data, Set, Start, Terminate, flagsAt, codeOf, octetOf}
+use Rattle.block.specs.Block.{Slot, Control, Calm, Data, Set, Start, Terminate, flagsAt, octetOf}
 use Rattle.block.specs.Rows.{width, row, rowOf}
-use Rattle.tables.specs.Tables.{upto, types, decodeTables, encodeTables, editionIn, LentToDecode, LentToEncode, shiftBy, maskBy, octetsFrom, baseBy, laneBy, codesFrom, fromBy, atBy, firstBy, nextBy}
+use Rattle.tables.specs.Tables.{upto, types, decodeTables, editionIn, LentToDecode, shiftBy, maskBy, octetsFrom, baseBy}
 
 from : {A : Type 0} (f : ℕ → A) (z : A) (n i k : ℕ) → k < n → getD (map f (upto i n)) k z ≡ f (i + k)
 from f z zero i k h = absurd (not-suc-le-zero h)
@@ -33,8 +33,6 @@ part l f b n e t q k h =
     ∙ sym (getD-take n (drop b l) k 0 h)
     ∙ ap (λ (l : List ℕ). getD l k 0) e
     ∙ entry f 0 n k h
-
--- ---- for decoding
 
 -- the octet of a slot's bits
 pub octet-of : (s : Slot) (t : List ℕ) → LentToDecode t → (v : ℕ) → v < 2 ^ width s → getD t (octetsFrom s + v) 0 ≡ octetOf (editionIn t) s v
@@ -74,52 +72,6 @@ lent-to-decode New t e = ap editionIn e
 
 pub lends-to-decode : (ed : Edition) (t : List ℕ) → t ≡ decodeTables ed → LentToDecode t
 lends-to-decode ed t e = e ∙ ap decodeTables (sym (lent-to-decode ed t e))
-
--- ---- for encoding
-
--- the code of a slot for an octet
-pub code-of : (s : Slot) (t : List ℕ) → LentToEncode t → (o : ℕ) → o < 256 → getD t (codesFrom s + o) 0 ≡ codeOf (editionIn t) s o
-unfolding encodeTables
-code-of Data t q = part (encodeTables (editionIn t)) (codeOf (editionIn t) Data) 0 256 refl t q
-code-of Control t q = part (encodeTables (editionIn t)) (codeOf (editionIn t) Control) 256 256 refl t q
-code-of Calm t q = part (encodeTables (editionIn t)) (codeOf (editionIn t) Calm) 512 256 refl t q
-code-of Set t q = part (encodeTables (editionIn t)) (codeOf (editionIn t) Set) 768 256 refl t q
-code-of Start t q = part (encodeTables (editionIn t)) (codeOf (editionIn t) Start) 1024 256 refl t q
-code-of Terminate t q = part (encodeTables (editionIn t)) (codeOf (editionIn t) Terminate) 1280 256 refl t q
-
-pub lane-at : (t : List ℕ) → LentToEncode t → (k : ℕ) → k < 128 → getD t (1536 + k) 0 ≡ laneBy k
-unfolding encodeTables
-lane-at t q = part (encodeTables (editionIn t)) laneBy 1536 128 refl t q
-
-pub from-at : (t : List ℕ) → LentToEncode t → (k : ℕ) → k < 128 → getD t (1664 + k) 0 ≡ fromBy k
-unfolding encodeTables
-from-at t q = part (encodeTables (editionIn t)) fromBy 1664 128 refl t q
-
-pub place-at : (t : List ℕ) → LentToEncode t → (k : ℕ) → k < 128 → getD t (1792 + k) 0 ≡ atBy k
-unfolding encodeTables
-place-at t q = part (encodeTables (editionIn t)) atBy 1792 128 refl t q
-
-pub lead-at : (t : List ℕ) → LentToEncode t → (r : ℕ) → r < 16 → getD t (1920 + r) 0 ≡ row r .type
-unfolding encodeTables
-lead-at t q = part (encodeTables (editionIn t)) (λ (r : ℕ). row r .type) 1920 16 refl t q
-
-pub first-at : (t : List ℕ) → LentToEncode t → (m : ℕ) → m < 256 → getD t (1936 + m) 0 ≡ firstBy m
-unfolding encodeTables
-first-at t q = part (encodeTables (editionIn t)) firstBy 1936 256 refl t q
-
-pub next-at : (t : List ℕ) → LentToEncode t → (r : ℕ) → r < 16 → getD t (2192 + r) 0 ≡ nextBy r
-unfolding encodeTables
-next-at t q = part (encodeTables (editionIn t)) nextBy 2192 16 refl t q
-
-pub lent-to-encode : (ed : Edition) (t : List ℕ) → t ≡ encodeTables ed → editionIn t ≡ ed
-unfolding editionIn encodeTables
-lent-to-encode Old t e = ap editionIn e
-lent-to-encode New t e = ap editionIn e
-
-pub lends-to-encode : (ed : Edition) (t : List ℕ) → t ≡ encodeTables ed → LentToEncode t
-lends-to-encode ed t e = e ∙ ap encodeTables (sym (lent-to-encode ed t e))
-
--- ---- for both
 
 -- they are the newer edition's where entry 262 is valid
 pub newer : (t : List ℕ) → getD t 262 0 < 256 → editionIn t ≡ New

@@ -6,16 +6,13 @@ use Rattle.block.specs.declared.Edition.{Edition}
 use Rattle.block.specs.declared.Kind.{Kind}
 use Rattle.block.specs.Block.{editionOf, twoWords, kindFor}
 use Rattle.block.specs.Rows.{row}
-use Rattle.tables.specs.Tables.{types, decodeTables, encodeTables}
+use Rattle.tables.specs.Tables.{types, decodeTables}
 
 pub type-table-unique : (r r′ : List ℕ) → r ≡ types → r′ ≡ types → r ≡ r′
 type-table-unique r r′ p q = p ∙ sym q
 
 pub decode-tables-unique : (ed : Edition) (r r′ : List ℕ) → r ≡ decodeTables ed → r′ ≡ decodeTables ed → r ≡ r′
 decode-tables-unique ed r r′ p q = p ∙ sym q
-
-pub encode-tables-unique : (ed : Edition) (r r′ : List ℕ) → r ≡ encodeTables ed → r′ ≡ encodeTables ed → r ≡ r′
-encode-tables-unique ed r r′ p q = p ∙ sym q
 
 pub kind-of-unique : (r c0 d0 c1 d1 : ℕ) (k k′ : Kind)
     → k ≡ kindFor (row r) (twoWords c0 d0 c1 d1) → k′ ≡ kindFor (row r) (twoWords c0 d0 c1 d1) → k ≡ k′

@@ -3,13 +3,13 @@
 use mathlib.Core.List.{List, [], _∷_, _++_, map}
 use mathlib.Core.Path.{_≡_}
 use mathlib.Core.Bool.{cond}
-use Prim.Native.Nat.{ℕ, zero, suc, _+_, _-_, _*_, _/_, _%_, _^_}
-use lib.Dec.{eqb, ltb}
-use lib.ListN.{getD, take, drop}
+use Prim.Native.Nat.{ℕ, zero, suc, _+_, _-_, _/_, _%_, _^_}
+use lib.Dec.{ltb}
+use lib.ListN.{getD}
 use Rattle.block.specs.declared.Edition.{Edition}
 use Rattle.block.specs.declared.Edition.the-variants.{Old, New}
-use Rattle.block.specs.Block.{Slot, Control, Calm, Data, Set, Start, Terminate, Field, d, Format, codeOf, octetOf, flagsAt}
-use Rattle.block.specs.Rows.{width, fieldAt, placeAt, bitsOf, formats, row, rowOf}
+use Rattle.block.specs.Block.{Slot, Control, Calm, Data, Set, Start, Terminate, Field, octetOf, flagsAt}
+use Rattle.block.specs.Rows.{width, fieldAt, placeAt, row, rowOf}
 
 -- the numbers from i on, n of them
 abbrev pub upto : ℕ → ℕ → List ℕ
@@ -44,50 +44,7 @@ octetsFrom Terminate = 529
 abbrev pub baseBy : ℕ → ℕ
 baseBy k = octetsFrom (fieldBy k .slot)
 
--- ---- for field n of a row, in the order of the payload: table entry 8 * row + n
-
-abbrev pub fieldIn : ℕ → ℕ → Field
-fieldIn r n = getD (row r .fields) n (d 0)
-
--- the lane of its character among eight octets, where the codes of its slot begin, and its place
-abbrev pub laneBy : ℕ → ℕ
-laneBy k = 8 * fieldIn (k / 8) (k % 8) .char
-
-abbrev pub codesFrom : Slot → ℕ
-codesFrom Data = 0
-codesFrom Control = 256
-codesFrom Calm = 512
-codesFrom Set = 768
-codesFrom Start = 1024
-codesFrom Terminate = 1280
-
-abbrev pub fromBy : ℕ → ℕ
-fromBy k = codesFrom (fieldIn (k / 8) (k % 8) .slot)
-
-abbrev pub placeIn : ℕ → ℕ → ℕ
-placeIn r n = row r .lead + bitsOf (take n (row r .fields))
-
-abbrev pub atBy : ℕ → ℕ
-atBy k = placeIn (k / 8) (k % 8) % 64
-
--- ---- the rows that can carry a vector: those with its control bits
-
-abbrev pub flagsOf : Format → ℕ
-flagsOf f = flagsAt (f .fields) 0 + 16 * flagsAt (f .fields) 4
-
--- the first format of a list with these control bits, or its length
-abbrev pub seek : ℕ → List Format → ℕ
-seek m [] = 0
-seek m (f ∷ fs) = cond (eqb (flagsOf f) m) 0 (suc (seek m fs))
-
-abbrev pub firstBy : ℕ → ℕ
-firstBy m = seek m formats
-
--- the next row with the control bits of row r
-abbrev pub nextBy : ℕ → ℕ
-nextBy r = suc r + seek (flagsOf (row r)) (drop (suc r) formats)
-
--- ---- the tables for decoding, and those for encoding, one after the other
+-- ---- the tables for decoding, one after the other
 
 unfoldable pub decodeTables : Edition → List ℕ
 decodeTables ed =
@@ -103,27 +60,9 @@ decodeTables ed =
     ++ map (λ (r : ℕ). flagsAt (row r .fields) 0) (upto 0 16)
     ++ map (λ (r : ℕ). flagsAt (row r .fields) 4) (upto 0 16)
 
-unfoldable pub encodeTables : Edition → List ℕ
-encodeTables ed =
-    map (codeOf ed Data) (upto 0 256)
-    ++ map (codeOf ed Control) (upto 0 256)
-    ++ map (codeOf ed Calm) (upto 0 256)
-    ++ map (codeOf ed Set) (upto 0 256)
-    ++ map (codeOf ed Start) (upto 0 256)
-    ++ map (codeOf ed Terminate) (upto 0 256)
-    ++ map laneBy (upto 0 128)
-    ++ map fromBy (upto 0 128)
-    ++ map atBy (upto 0 128)
-    ++ map (λ (r : ℕ). row r .type) (upto 0 16)
-    ++ map firstBy (upto 0 256)
-    ++ map nextBy (upto 0 16)
-
--- The edition of lent tables, by the octet of code 06 or the code of octet 06; and that they are the tables of an edition.
+-- The edition of lent tables, by the octet of code 06; and that they are the tables of an edition.
 unfoldable pub editionIn : List ℕ → Edition
 editionIn t = cond (ltb (getD t 262 0) 256) New Old
 
 abbrev pub LentToDecode : List ℕ → Type 0
 LentToDecode t = t ≡ decodeTables (editionIn t)
-
-abbrev pub LentToEncode : List ℕ → Type 0
-LentToEncode t = t ≡ encodeTables (editionIn t)

@@ -1,17 +1,17 @@
 // The constant tables of the block formats. A constant array is made anew wherever it is named, so the outermost function takes the
-// tables once and lends them to all below; those for decoding and those for encoding are apart, and each side takes its own.
+// tables once and lends them to all below.
 ghost use mathlib.Core.Path.{_≡_};
 ghost use mathlib.Core.List.{List};
 ghost use Prim.Native.Nat.{_<_};
 ghost use Rattle.block.specs.Block.{editionOf, twoWords, lowPower, kindFor};
 ghost use Rattle.block.specs.Rows.{row};
-ghost use Rattle.tables.specs.Tables.{types, decodeTables, encodeTables};
+ghost use Rattle.tables.specs.Tables.{types, decodeTables};
 use block::Edition;
 use block::Kind;
 
 mod data;
 
-// Where each table begins, of those for decoding: octets come first. For character p of row r, at 8 * r + p: the place of its field, the
+// Where each table begins: octets come first. For character p of row r, at 8 * r + p: the place of its field, the
 // mask, and where its octets begin.
 pub const SHIFT: usize = 530;
 
@@ -24,23 +24,7 @@ pub const LOW: usize = 914;
 
 pub const HIGH: usize = 930;
 
-// Of those for encoding: codes come first. For field i of row r, at 8 * r + i: where its octet stands among eight, where its codes begin,
-// and its place.
-pub const LANE: usize = 1536;
-
-pub const FROM: usize = 1664;
-
-pub const PLACE: usize = 1792;
-
-// For row r: its type.
-pub const TYPE: usize = 1920;
-
-// For two control bytes, at c0 + 16 * c1: the first row that has them. For row r: the next with its control bytes.
-pub const FIRST: usize = 1936;
-
-pub const NEXT: usize = 2192;
-
-// The octet of control code 06, and the code of that octet: below 256, and so valid, in the newer edition alone.
+// The octet of control code 06: below 256, and so valid, in the newer edition alone.
 pub const LOW_POWER: usize = 262;
 
 // The kind of each row, two bits for each: D, C, S and T are 0 to 3.
@@ -70,21 +54,6 @@ pub fn decode_tables(edition: Edition) -> [u16; 946]
         Edition::New => {
             t[262] = 6; // the octet of code 06
             t[390] = 6; // in type 1e too
-        }
-    }
-    t
-}
-
-// The tables for encoding, one after the other. The newer edition has two entries more.
-pub fn encode_tables(edition: Edition) -> [u16; 2208]
-    ensures { λ r. ⌜ r ≡ encodeTables edition ⌝ }
-{
-    let mut t = data::ENCODE;
-    match edition {
-        Edition::Old => {}
-        Edition::New => {
-            t[262] = 6; // the code of octet 06
-            t[518] = 6; // in type 1e too
         }
     }
     t
