@@ -38,6 +38,11 @@ unfolding carrier kindFor
 idle-coded₀ Old = refl
 idle-coded₀ New = refl
 
+-- eight low power idles, in the newer edition
+low-coded₀ : record { kind = LI; header = 1; payload = 0x0c183060c183061e } ≡ codedOf (carrier New (twoWords 15 0x06060606 15 0x06060606))
+unfolding carrier kindFor
+low-coded₀ = refl
+
 module _ (v : List ℕ) (l : length v ≡ 10) where
   -- the vector by the words that are read from it
   pub read-words : ((n : ℕ) → getD v n 0 < 256) → twoWords (getD v 0 0) (lanesAt v 1) (getD v 5 0) (lanesAt v 6) ≡ v
@@ -93,6 +98,15 @@ module _ (ed : Edition) where
       let x : 0x07070707 ≡ d0 = omega arith in
       let y : 0x07070707 ≡ d1 = omega arith in
       idle-coded₀ ed ∙ (λ i. codedOf (carrier ed (twoWords (a i) (x i) (b i) (y i))))
+
+  pub low-coded : ed ≡ New → (c0 d0 c1 d1 : ℕ) → c0 ≤ 15 → c1 ≤ 15 → d0 < 2 ^ 32 → c0 + 16 * c1 ≡ 255 → d0 + d1 * 4294967296 ≡ 0x0606060606060606
+      → record { kind = LI; header = 1; payload = 0x0c183060c183061e } ≡ codedOf (carrier ed (twoWords c0 d0 c1 d1))
+  low-coded n c0 d0 c1 d1 u w h e q =
+      let a : 15 ≡ c0 = omega arith in
+      let b : 15 ≡ c1 = omega arith in
+      let x : 0x06060606 ≡ d0 = omega arith in
+      let y : 0x06060606 ≡ d1 = omega arith in
+      low-coded₀ ∙ (λ i. codedOf (carrier (sym n i) (twoWords (a i) (x i) (b i) (y i))))
 
   -- ---- one vector by itself
 

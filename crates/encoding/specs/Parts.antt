@@ -1,4 +1,5 @@
 -- A reviewer can skip this file: what the private functions answer.
+use mathlib.Core.Path.{_≡_}
 use mathlib.Core.Bool.{true, false, cond}
 use mathlib.Core.List.{List, [], _∷_}
 use Prim.Native.Nat.{ℕ, zero, suc, _+_, _*_, _/_, _%_, _^_}
@@ -7,12 +8,14 @@ use lib.ListN.{getD, take, drop}
 use Rattle.block.specs.declared.Edition.{Edition}
 use Rattle.block.specs.declared.Kind.{Kind}
 use Rattle.block.specs.declared.Kind.the-variants.{D, C, S, T, LI, E}
-use Rattle.block.specs.Block.{twoWords, Slot, Control, Calm, Data, Set, Start, Terminate, Field, d, Format, flagsAt, codeOf, carries, payloadOf}
+use Rattle.block.specs.Block.{twoWords, Slot, Control, Calm, Data, Set, Start, Terminate, Field, d, Format, flagsAt, codeOf, carries, payloadOf, carrier}
 use Rattle.block.specs.Rows.{bitsOf, formats, row}
 use Rattle.encoding.specs.declared.Coded.{Coded}
 use Rattle.encoding.specs.declared.Sum.{Sum}
+use Rattle.encoding.specs.declared.Known.{Known}
 use Rattle.encoding.specs.declared.Encoded.{Encoded}
 use Rattle.encoding.specs.declared.Encoded.the-variants.{Invalid, Block}
+use Rattle.encoding.specs.Answer.{codedOf}
 
 -- the vector with these control bytes and eight octets, character 0 lowest
 abbrev pub spread : ℕ → ℕ → ℕ → List ℕ
@@ -81,6 +84,11 @@ fieldCode ed r i lanes = codeOf ed (fieldIn r i .slot) (lanes / 2 ^ (8 * fieldIn
 -- the payload of a format, where it carries the vector
 abbrev pub sumBy : Edition → List ℕ → Format → Sum
 sumBy ed v f = cond (carries ed v (f .fields)) (record { fits = true; payload = payloadOf ed v f }) (record { fits = false; payload = 0 })
+
+-- a quick answer, where there is one, is the block in both editions
+abbrev pub Quickly : ℕ → ℕ → ℕ → Known → Type 0
+Quickly c0 c1 lanes z =
+    z .there ≡ true → (ed : Edition) → record { kind = z .kind; header = z .header; payload = z .payload } ≡ codedOf (carrier ed (spread c0 c1 lanes))
 
 -- four bytes as lanes
 abbrev pub lanesAt : List ℕ → ℕ → ℕ
