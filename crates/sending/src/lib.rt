@@ -18,12 +18,14 @@ ghost use mathlib.Core.Bool.{true};
 ghost use mathlib.Core.List.{List, _++_};
 ghost use Prim.Native.Nat.{ℕ, _+_, _*_, _/_, _%_, _^_, _<_, _≤_};
 ghost use lib.ListN.{length, getD, drop};
-ghost use Rattle.block.specs.Block.{carrier, highControl};
+ghost use Rattle.block.specs.Block.{carrier};
 ghost use Rattle.encoding.specs.Answer.{codedOf};
 ghost use Rattle.line.specs.Word.{word};
 ghost use Rattle.sending.specs.Send.{replacedIn, vectorsIn, sentLine};
 ghost use Rattle.sending.specs.Answer.{sent, sentFor, Sends};
 ghost use Rattle.sending.specs.Sends.{Low, chosen, octetsAt, Codes, idleCoded, Idles, controlsAt, Steps, Groups, Fills};
+
+mod controls;
 
 // What sending returns: its end state, the number of its end diagram state, and how many vectors it replaced.
 pub struct Sending {
@@ -342,21 +344,6 @@ fn send_all(edition: Edition, vectors: &[u8], start: u64, line: &mut [u8]) -> Se
     }
 }
 
-// The byte offset of the first control byte above 15; where there is none, the end of the words.
-fn high_control(bytes: &[u8]) -> usize
-    ensures { λ r. ⌜ r ≡ highControl (now (bytes .entry)) ⌝ }
-{
-    let n = bytes.len();
-    let mut at: usize = 0;
-    while 5 <= n - at {
-        if 15 < bytes[at] {
-            return at;
-        }
-        at = at + 5;
-    }
-    at
-}
-
 // Sends a list of vectors in an edition (0 old, 1 new), from a start state below 2^58. Its line goes to the start of the lent room; a refusal
 // changes nothing.
 pub fn send(edition: u64, vectors: &[u8], start: u64, line: &mut [u8]) -> Sent
@@ -378,7 +365,7 @@ pub fn send(edition: u64, vectors: &[u8], start: u64, line: &mut [u8]) -> Sent
     if line.len() < 33 * (n / 40) {
         return Sent::Refused(Refusal::Room, 0);
     }
-    let high = high_control(vectors);
+    let high = controls::first_high(vectors);
     if high < n {
         return Sent::Refused(Refusal::ControlByte, high);
     }
