@@ -1,4 +1,4 @@
--- `sending::high_control` meets its contract. The loop's invariant: the first control byte above 15 is the first from here on. Assumes nothing.
+-- `sending::controls::high_control` meets its contract. The loop's invariant: the first control byte above 15 is the first from here on. Assumes nothing.
 use Prim.Native.Nat.{ℕ, _/_, _≤_, _-_}
 use mathlib.Core.Path.{_≡_, ap}
 use native.Mathlib.Omega.{arith}
@@ -7,8 +7,8 @@ use denote.Ref.{now}
 use borrow.Author.Needs.{needs}
 use Rattle.block.specs.Block.{highFrom, highControl}
 use Rattle.sending.proofs.Scan.{scan-turn, scan-found, scan-none}
-use Rattle.sending.proofs.high_control.Statement.{statement}
-use Rattle.sending.proofs.high_control.Tie as tie
+use Rattle.sending.proofs.controls.high_control.Statement.{statement}
+use Rattle.sending.proofs.controls.high_control.Tie as tie
 
 abbrev Inv-loop : tie.InvT-loop
 Inv-loop bytes n at₀ at = (at ≤ length bytes) × (highControl bytes ≡ highFrom ((length bytes - at) / 5) at bytes)
