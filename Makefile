@@ -5,8 +5,8 @@
 # make targets    the same for Android and Apple on 64-bit Arm: target/native/TARGET/libholzmotte.a, compiled and not run
 # make install    header, archive, shared library and pkg-config file, below $DESTDIR$PREFIX (PREFIX: /usr/local)
 # make uninstall  takes them away
-# make compare, make ctest, make examples, make rust: one outside check alone
-# make bench      the library beside a hand-written version, and bursts beside one call, timed in one run
+# make compare, make ctest, make examples, make rust, make same: one outside check alone
+# make bench      the library beside two hand-written versions, in bursts, in short and in long calls, timed in one run: target/bench/speed.md
 # make soak       comparisons with the second program from a new seed, until stopped
 .PHONY: help test demo
 

@@ -1,14 +1,14 @@
 # The library for the machine at hand and for others, the checks of it from outside, and where it is installed.
 NATIVE := target/native/libholzmotte.a
 
-.PHONY: native targets rust compare ctest examples bench soak install uninstall
+.PHONY: native targets rust same compare ctest examples bench soak install uninstall
 
 native: $(NATIVE)
 
 $(NATIVE): tools/native crates.txt $(shell find crates -name '*.rt' -o -name '*.antt')
 	tools/native
 
-targets rust: $(NATIVE)
+targets rust same: $(NATIVE)
 	tools/$@
 
 compare ctest examples bench soak: $(NATIVE)

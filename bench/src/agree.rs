@@ -1,6 +1,7 @@
-//! The fast version keeps the library's contract: same result and same bytes, on many short calls in both editions, refused ones too,
-//! and on lines over several windows of the error rate.
-use crate::fast;
+//! Both hand-written versions keep the library's contract: same result and same bytes, on many short calls in both editions, refused ones
+//! too, and on long lists and lines, over several windows of the error rate.
+use crate::traffic::{self, Traffic};
+use crate::ways::{Way, WAYS};
 use compare::library;
 use compare::lines::{control, idle, of_any_kind, until_high, Line};
 use compare::lists;
@@ -10,24 +11,26 @@ use compare::reference::diagrams::WINDOW;
 use compare::reference::edition::{Edition, EDITIONS};
 use compare::reference::vector::LOCAL_FAULT;
 
-/// Calls both with lent slices of this content.
-fn same<const N: usize>(lent: [Vec<u8>; N], call: impl Fn(&mut [Vec<u8>; N], bool) -> u64) {
-    let mut lents = [lent.clone(), lent];
-    let results = [0, 1].map(|i| call(&mut lents[i], i == 0));
-    assert!(results[0] == results[1] && lents[0] == lents[1], "the fast version differs");
+/// Calls all with lent slices of this content.
+fn same<const N: usize>(lent: [Vec<u8>; N], call: impl Fn(&Way, &mut [Vec<u8>; N]) -> u64) {
+    let [by_library, others @ ..] = WAYS.map(|way| {
+        let mut lent = lent.clone();
+        (way.name, call(&way, &mut lent), lent)
+    });
+    for (name, result, lent) in others {
+        assert!(result == by_library.1 && lent == by_library.2, "{name} differs from the library");
+    }
 }
 
 fn same_sent(edition: u64, vectors: &[u8], start: u64, room: usize, summary_room: usize) {
-    same([vec![0xa5; room], vec![0x5a; summary_room]], |[line, summary], by_library| {
-        let send = if by_library { library::send } else { fast::send };
-        send(edition, vectors, start, line, summary)
+    same([vec![0xa5; room], vec![0x5a; summary_room]], |way, [line, summary]| {
+        (way.send)(edition, vectors, start, line, summary)
     });
 }
 
 fn same_received(edition: u64, line: &[u8], room: usize, summary_room: usize, counters: Vec<u8>) {
-    same([vec![0xa5; room], vec![0x5a; summary_room], counters], |[vectors, summary, counters], by_library| {
-        let receive = if by_library { library::receive } else { fast::receive };
-        receive(edition, line, vectors, summary, counters)
+    same([vec![0xa5; room], vec![0x5a; summary_room], counters], |way, [vectors, summary, counters]| {
+        (way.receive)(edition, line, vectors, summary, counters)
     });
 }
 
@@ -52,12 +55,46 @@ fn sending(edition: Edition, random: &mut Random) {
 
 fn receiving(edition: Edition, random: &mut Random) {
     let vectors = lists::list_after_lock(edition, 4 * random.below(100), 20, random);
-    let mut line = Line::of_list(edition, &vectors, random.start_state());
+    receiving_damaged(edition, &vectors, 40, random);
+}
+
+/// The line of a list, without its first bits and with some flipped.
+fn receiving_damaged(edition: Edition, vectors: &[u8], flips: usize, random: &mut Random) {
+    let mut line = Line::of_list(edition, vectors, random.start_state());
     line.cut(0, random.below(66).min(line.bits.len()));
     if !line.bits.is_empty() {
-        line.flip_some(random.below(40), 0, random);
+        line.flip_some(random.below(flips), 0, random);
     }
     receiving_line(edition, &line, random);
+}
+
+/// Part of a list that is timed, from its start or not: stretches of idles, of low power idles and of data.
+fn timed(edition: Edition, traffic: &[Traffic], random: &mut Random) {
+    let traffic = &traffic[random.below(traffic.len())];
+    let from = if random.once_in(2) { 0 } else { 40 * random.below(2_000) };
+    let groups = if random.once_in(8) { random.below(300) } else { random.below(40) };
+    let vectors = &traffic.vectors[from..from + 40 * groups];
+    same_sent(edition as u64, vectors, random.start_state(), 33 * groups, 24);
+    let flips = random.pick(&[1, 2, 20]);
+    receiving_damaged(edition, vectors, flips, random);
+}
+
+fn receiving_noise(edition: Edition, random: &mut Random) {
+    let bytes = if random.once_in(2) { random.below(20) } else { random.below(3_000) };
+    same_received(
+        edition as u64,
+        &random.bytes(bytes),
+        8 * bytes / 66 * 10,
+        library::RECEIVE_SUMMARY_BYTES,
+        random.counters(library::COUNTERS_BYTES),
+    );
+}
+
+/// A long list with strays, and its line, damaged.
+fn long(edition: Edition, random: &mut Random) {
+    let vectors = lists::list_after_lock(edition, 40_000, 2, random);
+    same_sent(edition as u64, &vectors, random.start_state(), vectors.len() / 40 * 33, 24);
+    receiving_damaged(edition, &vectors, 400, random);
 }
 
 /// Blocks of every type with any codes, by a receiver that is locked, high or neither.
@@ -106,23 +143,24 @@ fn receiving_line(edition: Edition, line: &Line, random: &mut Random) {
     same_received(number(edition, random), &line, room, summary, random.counters(counters));
 }
 
-/// Invalid headers in one window after the other: 16 set `high`, and the end of a window with fewer clears it.
-const INVALID: [usize; 5] = [16, 15, 16, 16, 0];
+/// Invalid headers in one window after the other: 16 set `high`, and the end of a window with fewer clears it. In the second line `high`
+/// is never set, as the end of a window forgets what it counted.
+const INVALID: [[usize; 5]; 2] = [[16, 15, 16, 16, 0], [15; 5]];
 
-/// A line over whole windows, each with so many invalid headers, from its first block on or from its last block back; too far apart to
-/// lose lock. `high` is looked at where a window ends: its last block is already answered by it.
-fn receiving_windows(edition: Edition, from_last: bool, random: &mut Random) {
+/// Where the n-th stands in window i: from its first block on, inside, or from its last block back; too far apart to lose lock.
+type Place = fn(usize, usize) -> usize;
+const PLACES: [Place; 3] = [|_, n| 1_000 * n, |i, n| 500 + i + 1_000 * n, |_, n| WINDOW as usize - 1 - 1_000 * n];
+
+/// A line over whole windows. `high` is looked at where a window ends: its last block is already answered by it.
+fn receiving_windows(edition: Edition, invalid: [usize; 5], place: Place, random: &mut Random) {
     let window = WINDOW as usize;
-    let mut line = Line::of_blocks(&vec![idle(); 64 + INVALID.len() * window + 4], random.start_state());
-    for (i, invalid) in INVALID.into_iter().enumerate() {
-        for n in 0..invalid {
-            let place = if from_last { window - 1 - 1_000 * n } else { 1_000 * n };
-            line.spoil_header(64 + i * window + place);
-        }
+    let mut line = Line::of_blocks(&vec![idle(); 64 + invalid.len() * window + 4], random.start_state());
+    for (i, invalid) in invalid.into_iter().enumerate() {
+        (0..invalid).for_each(|n| line.spoil_header(64 + i * window + place(i, n)));
     }
     let line = line.bytes();
     let (vectors, _) = library::received(edition, &line);
-    for (i, invalid) in INVALID.into_iter().enumerate() {
+    for (i, invalid) in invalid.into_iter().enumerate() {
         let last = 64 + (i + 1) * window - 1;
         let high = vectors[10 * last..10 * last + 10] == LOCAL_FAULT;
         assert_eq!(high, invalid == 16, "high at the end of window {i}");
@@ -133,12 +171,18 @@ fn receiving_windows(edition: Edition, from_last: bool, random: &mut Random) {
 }
 
 fn check_in(edition: Edition, random: &mut Random) {
-    for from_last in [false, true] {
-        receiving_windows(edition, from_last, random);
+    for invalid in INVALID {
+        PLACES.into_iter().for_each(|place| receiving_windows(edition, invalid, place, random));
     }
+    for _ in 0..4 {
+        long(edition, random);
+    }
+    let traffic = traffic::all(edition);
     for _ in 0..2_000 {
         sending(edition, random);
         receiving(edition, random);
+        timed(edition, &traffic, random);
+        receiving_noise(edition, random);
         receiving_bad_blocks(edition, random);
         receiving_out_of_turn(edition, random);
         receiving_last_frame(edition, random);

@@ -9,13 +9,13 @@ const CHARACTERS: [(u8, u8); 9] = [
 ];
 
 /// What the characters of an edition are.
-struct Tables {
+pub struct Tables {
     /// 7-bit code of each control octet; `NONE` where there is none.
     code: [u8; 256],
     /// Octet of each 7-bit code. No control character is 0, so 0 says that there is none.
     octet: [u8; 128],
     /// Is low power idle one of them?
-    low_power: bool,
+    pub low_power: bool,
 }
 
 const NONE: u8 = 0x80;
@@ -35,7 +35,7 @@ const fn tables(count: usize) -> Tables {
     tables
 }
 
-fn tables_of(edition: u64) -> Option<&'static Tables> {
+pub fn tables_of(edition: u64) -> Option<&'static Tables> {
     match edition {
         0 => Some(&OLD),
         1 => Some(&NEW),
@@ -43,22 +43,22 @@ fn tables_of(edition: u64) -> Option<&'static Tables> {
     }
 }
 
-const IDLES: u64 = 0x0707_0707_0707_0707;
-const LOW_POWER: u64 = 0x0606_0606_0606_0606;
-const ERRORS: u64 = 0xfefe_fefe_fefe_fefe;
-const LOCAL_FAULT: u64 = 0x0100_009c_0100_009c;
-const IDLE_PAYLOAD: u64 = 0x1e;
-const LOW_POWER_PAYLOAD: u64 = 0x0c18_3060_c183_061e;
-const ERROR_PAYLOAD: u64 = 0x3c78_f1e3_c78f_1e1e;
-const DATA: u64 = 2;
-const CONTROL: u64 = 1;
+pub const IDLES: u64 = 0x0707_0707_0707_0707;
+pub const LOW_POWER: u64 = 0x0606_0606_0606_0606;
+pub const ERRORS: u64 = 0xfefe_fefe_fefe_fefe;
+pub const LOCAL_FAULT: u64 = 0x0100_009c_0100_009c;
+pub const IDLE_PAYLOAD: u64 = 0x1e;
+pub const LOW_POWER_PAYLOAD: u64 = 0x0c18_3060_c183_061e;
+pub const ERROR_PAYLOAD: u64 = 0x3c78_f1e3_c78f_1e1e;
+pub const DATA: u64 = 2;
+pub const CONTROL: u64 = 1;
 
 /// The types of terminate blocks, by where Terminate stands.
-const TERMINATES: [u64; 8] = [0x87, 0x99, 0xaa, 0xb4, 0xcc, 0xd2, 0xe1, 0xff];
+pub const TERMINATES: [u64; 8] = [0x87, 0x99, 0xaa, 0xb4, 0xcc, 0xd2, 0xe1, 0xff];
 
 #[derive(Clone, Copy, PartialEq, Eq)]
 #[repr(u8)]
-enum Kind {
+pub enum Kind {
     D,
     C,
     S,
@@ -71,7 +71,7 @@ enum Kind {
 
 #[derive(Clone, Copy, PartialEq, Eq)]
 #[repr(u8)]
-enum State {
+pub enum State {
     Init,
     C,
     D,
@@ -80,14 +80,14 @@ enum State {
     LI,
 }
 
-fn put_words(summary: &mut [u8], words: &[u64]) {
+pub fn put_words(summary: &mut [u8], words: &[u64]) {
     for (place, word) in summary.chunks_exact_mut(8).zip(words) {
         place.copy_from_slice(&word.to_le_bytes());
     }
 }
 
 /// A refusal's result; zeros in a summary that has room for them.
-fn refuse(summary: &mut [u8], words: usize, number: u64, place: usize) -> u64 {
+pub fn refuse(summary: &mut [u8], words: usize, number: u64, place: usize) -> u64 {
     if summary.len() >= 8 * words {
         summary[..8 * words].fill(0);
     }
@@ -129,7 +129,7 @@ fn o_code(octet: u64) -> Option<u64> {
 }
 
 /// Kind and payload of a vector with a control character and not all low power idle; `flags` has a bit for each control character.
-fn encode(tables: &Tables, flags: u64, octets: u64) -> Option<(Kind, u64)> {
+pub fn encode(tables: &Tables, flags: u64, octets: u64) -> Option<(Kind, u64)> {
     let (first, fifth) = (octets as u8, (octets >> 32) as u8);
     let low_data = (octets >> 8) & 0xff_ffff; // D1 to D3
     let high_data = (octets >> 40) << 40; // D5 to D7, in their place in the payload
@@ -181,7 +181,7 @@ fn terminate(tables: &Tables, octets: u64, k: u32) -> Option<(Kind, u64)> {
     Some((Kind::T, TERMINATES[k as usize] | data | codes))
 }
 
-fn transmit(state: State, kind: Kind) -> State {
+pub const fn transmit(state: State, kind: Kind) -> State {
     match (state, kind) {
         (State::Init | State::C | State::T | State::E | State::LI, Kind::C) => State::C,
         (State::Init | State::C | State::T, Kind::S) => State::D,
@@ -290,7 +290,7 @@ struct Tested {
 /// Why a block is bad, in the summary's order.
 #[derive(Clone, Copy)]
 #[repr(u8)]
-enum Fault {
+pub enum Fault {
     Header,
     Type,
     ControlCode,
@@ -326,7 +326,7 @@ fn o_octet(code: u64) -> Result<u64, Fault> {
 
 /// Kind, control flags and octets of a control block that is not all low power idle. Control codes are looked at before ordered set
 /// codes.
-fn decode(tables: &Tables, payload: u64) -> Result<(Kind, u8, u64), Fault> {
+pub fn decode(tables: &Tables, payload: u64) -> Result<(Kind, u8, u64), Fault> {
     let low_data = (payload >> 8) & 0xff_ffff; // D1 to D3
     let high_data = (payload >> 40) << 40; // D5 to D7, in their place in the vector
     let low_codes = (payload >> 8) & 0xfff_ffff; // C0 to C3
@@ -526,7 +526,7 @@ impl Answers {
 }
 
 /// Adds what a call counted, at most 100,000 each.
-fn add_counts(counters: &mut [u8; 32], added: [u64; 8]) {
+pub fn add_counts(counters: &mut [u8; 32], added: [u64; 8]) {
     for (place, added) in counters.chunks_exact_mut(4).zip(added) {
         let old = load32(place, 0) as u32;
         place.copy_from_slice(&old.saturating_add(added as u32).to_le_bytes());

@@ -21,19 +21,32 @@ pub fn all(edition: Edition) -> Vec<Traffic> {
     let noisy_line = random.bytes(BLOCKS / 4 * 33);
     let mut all = vec![
         Traffic { name: "all idle", vectors: lists::idle().repeat(BLOCKS), line: None },
-        Traffic { name: "1,500-octet frames", vectors: frames(|_| 1_500), line: None },
+        Traffic { name: "1,500-octet frames", vectors: long_frames(), line: None },
         Traffic { name: "64-octet frames", vectors: frames(|n| 64 + n % 8), line: None },
         Traffic { name: "noise", vectors: noise, line: Some(noisy_line) },
     ];
     if edition == Edition::New {
-        all.push(Traffic { name: "low power idle", vectors: low_power(), line: None });
+        all.push(low_power());
     }
     all
 }
 
+/// Those of an edition that the one before does not have.
+pub fn new_in(edition: Edition) -> Vec<Traffic> {
+    match edition {
+        Edition::Old => all(edition),
+        Edition::New => vec![low_power()],
+    }
+}
+
+pub fn long_frames() -> Vec<u8> {
+    frames(|_| 1_500)
+}
+
 /// 64 vectors of idles, then low power idle.
-fn low_power() -> Vec<u8> {
-    [lists::idle().repeat(64), lists::low_power().repeat(BLOCKS - 64)].concat()
+fn low_power() -> Traffic {
+    let vectors = [lists::idle().repeat(64), lists::low_power().repeat(BLOCKS - 64)].concat();
+    Traffic { name: "low power idle", vectors, line: None }
 }
 
 /// 64 vectors of idles, then frames back to back: Start and preamble, octets, Terminate and eleven idles, then idles up to a word.

@@ -146,7 +146,7 @@ module _ (ed : Edition) where
         go (block E h x) e = absurd (carrier-kind ed w E h x e refl)
 
     pub good-answer : (z : Encoded) (c : Coded) (d0 d1 : ℕ) → ((n : ℕ) → getD v n 0 < 256) → getD v 0 0 ≤ 15 → getD v 5 0 ≤ 15
-        → d0 ≡ lanesAt v 1 → d1 ≡ lanesAt v 6 → (lent : Edition) → lent ≡ ed → c ≡ codedOf (carrier lent (twoWords (getD v 0 0) d0 (getD v 5 0) d1)) → z ≡ encodedOf c → answerOf z ≡ encodeAnswer ed v
-    good-answer z c d0 d1 b h k p q lent l′ r s =
-        ap answerOf (s ∙ ap encodedOf (r ∙ ap codedOf (ap₂ carrier l′ (ap₂ (λ (x y : ℕ). twoWords (getD v 0 0) x (getD v 5 0) y) p q ∙ read-words v l b))))
+        → d0 ≡ lanesAt v 1 → d1 ≡ lanesAt v 6 → c ≡ codedOf (carrier ed (twoWords (getD v 0 0) d0 (getD v 5 0) d1)) → z ≡ encodedOf c → answerOf z ≡ encodeAnswer ed v
+    good-answer z c d0 d1 b h k p q r s =
+        ap answerOf (s ∙ ap encodedOf (r ∙ ap codedOf (ap (carrier ed) (ap₂ (λ (x y : ℕ). twoWords (getD v 0 0) x (getD v 5 0) y) p q ∙ read-words v l b))))
         ∙ given v ∙ both-low h k

@@ -2,7 +2,7 @@
 use mathlib.Core.Path.{_≡_, refl, _∙_, ap, subst, sym}
 use mathlib.Core.Bool.{Bool, true, false, cond, _||_}
 use mathlib.Core.List.{List, [], _∷_}
-use Prim.Native.Nat.{ℕ, zero, suc, _+_, _*_, _<_, _≤_, zero-le}
+use Prim.Native.Nat.{ℕ, zero, suc, _+_, _*_, _<_, _≤_}
 use native.Mathlib.Nat.{le-of-suc-le-suc, not-suc-le-zero}
 use native.Mathlib.Omega.{arith}
 use lib.Dec.{T, eqb, eqb→eq}
@@ -17,20 +17,12 @@ use Rattle.block.specs.Rows.{formats, row, SameFlags}
 use Rattle.block.proofs.Tests.{both-left, both-right, or-right, all, every, every-at, is-true, by-test}
 use Rattle.block.proofs.Formats.{sound, all-sound, flags-lt}
 use Rattle.block.proofs.Sending.{carried-flags}
-use Rattle.tables.specs.Tables.{flagsOf, seek, firstBy, nextBy}
+use Rattle.encoding.specs.Parts.{flagsOf, seek, firstBy, nextBy}
 use Rattle.encoding.specs.declared.Sum.{Sum}
 use Rattle.encoding.specs.Answer.{codedOf}
 use Rattle.encoding.specs.Parts.{sumBy}
 
 -- ---- seeking a format with some control bits
-
-seek-le : (m : ℕ) (fs : List Format) → seek m fs ≤ length fs
-seek-le m [] = zero-le
-seek-le m (f ∷ fs) = go (eqb (flagsOf f) m) (seek-le m fs)
-  where
-    go : (b : Bool) → seek m fs ≤ length fs → cond b 0 (suc (seek m fs)) ≤ suc (length fs)
-    go true h = zero-le
-    go false h = omega arith
 
 seek-flags : (m : ℕ) (fs : List Format) → seek m fs < length fs → flagsOf (getD fs (seek m fs) noFormat) ≡ m
 seek-flags m [] h = absurd (not-suc-le-zero h)
@@ -49,15 +41,9 @@ every-drop q (suc n) (f ∷ fs) t = every-drop q n fs (both-right (q f) (every q
 same-flags : (v : List ℕ) (f : Format) → getD v 0 0 < 16 → flagsOf f ≡ getD v 0 0 + 16 * getD v 5 0 → SameFlags v f
 same-flags v f h e = (omega (arith, flags-lt (f .fields) 0), omega (arith, flags-lt (f .fields) 0))
 
--- the rows end at 16
-pub first-le : (m : ℕ) → firstBy m ≤ 16
-first-le m = seek-le m formats
-
+-- the next row is a later one
 pub next-gt : (r : ℕ) → r < nextBy r
 next-gt r = omega arith
-
-pub next-le : (r : ℕ) → r < 16 → nextBy r ≤ 16
-next-le r h = omega (arith, seek-le (flagsOf (row r)) (drop (suc r) formats), length-drop (suc r) formats)
 
 abbrev oneHeader : Format → Bool
 oneHeader f = eqb (flagsOf f) 0 || eqb (f .header) 1

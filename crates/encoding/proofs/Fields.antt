@@ -1,22 +1,21 @@
--- The code of one field of a row, and its place in the payload, as the tables have them.
+-- The code of one field of a row, and its place in the payload, as the numbers of the rows have them.
 use mathlib.Core.Path.{_≡_, refl, _∙_, ap, ap₂, subst, subst₂, sym}
-use mathlib.Core.Bool.{Bool, true, false, cond}
+use mathlib.Core.Bool.{Bool, true, false, cond, _||_}
 use mathlib.Core.List.{List, [], _∷_}
-use Prim.Native.Nat.{ℕ, _+_, _*_, _/_, _%_, _^_, _<_, _≤_}
+use Prim.Native.Nat.{ℕ, zero, suc, _+_, _*_, _/_, _%_, _^_, _<_, _≤_}
 use native.Mathlib.Nat.{mod-eq-of-lt, mul-comm, mul-zero, zero-mul}
 use native.Mathlib.Omega.{arith}
 use lib.Dec.{T, eqb, ltb, leb, ltb→lt, leb→le, eqb→eq}
-use lib.ListN.{getD}
 use lib.Pow.{shl-exact}
 use borrow.Author.Tests.{ltb-true, ltb-false, eq-eqb}
 use Rattle.block.specs.declared.Edition.{Edition}
+use Rattle.block.specs.declared.Edition.the-variants.{Old, New}
 use Rattle.block.specs.Block.{Slot, Control, Calm, Data, Set, Start, Terminate, flagAt, flagOf, laneOf, controlBit, codeOf, sentCode}
 use Rattle.block.specs.Rows.{width, row, SameFlags}
-use Rattle.block.proofs.Tests.{all, holds, each, at, eight}
+use Rattle.block.proofs.Tests.{all, holds, each, at, eight, or-right}
 use Rattle.block.proofs.Reading.{flags-same}
-use Rattle.tables.specs.Tables.{editionIn, LentToEncode, fieldIn, placeIn, codesFrom}
-use Rattle.tables.proofs.Entries.{lane-at, from-at, place-at, code-of}
-use Rattle.encoding.specs.Parts.{spread, fieldCode}
+use Rattle.encoding.proofs.Told.{NoneOf, has, otherwise}
+use Rattle.encoding.specs.Parts.{spread, fieldIn, placeIn, slotOf, slotNumber, fieldsBy, placesBy, fieldCode}
 
 -- ---- what every field of every row has
 
@@ -26,18 +25,29 @@ fineField r i =
     ∷ ltb (fieldIn r i .char) 8
     ∷ eqb (flagAt (row r .fields) (fieldIn r i .char)) (controlBit (fieldIn r i .slot))
     ∷ leb (width (fieldIn r i .slot)) (fieldIn r i .bits)
+    ∷ eqb (fieldsBy r / 2 ^ (8 * i) % 256) (fieldIn r i .char + 8 * slotNumber (fieldIn r i .slot))
+    ∷ eqb (placesBy r / 2 ^ (8 * i) % 64) (placeIn r i % 64)
     ∷ []
 
 all-fields : T (each (λ (k : ℕ). all (fineField (k / 8) (k % 8))) 0 128)
+unfolding fieldsBy placesBy
 all-fields = tt
 
-codes-le : (s : Slot) → codesFrom s ≤ 1280
-codes-le Control = omega arith
-codes-le Calm = omega arith
-codes-le Data = omega arith
-codes-le Set = omega arith
-codes-le Start = omega arith
-codes-le Terminate = omega arith
+slot-is : (s : Slot) → slotOf (slotNumber s) ≡ s
+slot-is Control = refl
+slot-is Calm = refl
+slot-is Data = refl
+slot-is Set = refl
+slot-is Start = refl
+slot-is Terminate = refl
+
+pub last-slot : (n : ℕ) → NoneOf (4 ∷ 3 ∷ 2 ∷ 1 ∷ 0 ∷ []) n → slotOf n ≡ Terminate
+last-slot zero m = absurd (m .0 .0 .0 .0 .1 refl)
+last-slot (suc zero) m = absurd (m .0 .0 .0 .1 refl)
+last-slot (suc (suc zero)) m = absurd (m .0 .0 .1 refl)
+last-slot (suc (suc (suc zero))) m = absurd (m .0 .1 refl)
+last-slot (suc (suc (suc (suc zero)))) m = absurd (m .1 refl)
+last-slot (suc (suc (suc (suc (suc n))))) m = refl
 
 -- an octet among the eight
 pub lane-of : (c0 c1 lanes p : ℕ) → p < 8 → laneOf (spread c0 c1 lanes) p ≡ lanes / 2 ^ (8 * p) % 2 ^ 8
@@ -74,46 +84,63 @@ module _ (r i : ℕ) (hr : r < 16) (hi : i < 8) where
       (eq-eqb (flagOf (spread c0 c1 lanes) (fieldIn r i .char)) (controlBit (fieldIn r i .slot)) (flags-same (spread c0 c1 lanes) (row r) e (fieldIn r i .char) char-lt ∙ own-flag))
       ∙ ap (codeOf ed (fieldIn r i .slot)) (lane-of c0 c1 lanes (fieldIn r i .char) char-lt)
 
-  module _ (t : List ℕ) (e : LentToEncode t) where
-    lane-is : getD t (1536 + (8 * r + i)) 0 ≡ 8 * fieldIn r i .char
-    lane-is = lane-at t e (8 * r + i) (omega arith) ∙ ap₂ (λ (a b : ℕ). 8 * fieldIn a b .char) quot rest
+  field-is : fieldsBy r / 2 ^ (8 * i) % 256 ≡ fieldIn r i .char + 8 * slotNumber (fieldIn r i .slot)
+  field-is = eqb→eq (fieldsBy r / 2 ^ (8 * i) % 256) (fieldIn r i .char + 8 * slotNumber (fieldIn r i .slot)) (holds (fineField r i) 4 fine)
 
-    from-is : getD t (1664 + (8 * r + i)) 0 ≡ codesFrom (fieldIn r i .slot)
-    from-is = from-at t e (8 * r + i) (omega arith) ∙ ap₂ (λ (a b : ℕ). codesFrom (fieldIn a b .slot)) quot rest
+  pub code-is : (ed : Edition) (lanes f : ℕ) → f ≡ fieldsBy r
+      → codeOf ed (slotOf (f / 2 ^ (8 * i) % 256 / 8)) (lanes / 2 ^ (8 * (f / 2 ^ (8 * i) % 256 % 8)) % 256) ≡ fieldCode ed r i lanes
+  code-is ed lanes f e =
+      let w : f / 2 ^ (8 * i) % 256 ≡ fieldIn r i .char + 8 * slotNumber (fieldIn r i .slot) = ap (λ (n : ℕ). n / 2 ^ (8 * i) % 256) e ∙ field-is in
+      let n : f / 2 ^ (8 * i) % 256 / 8 ≡ slotNumber (fieldIn r i .slot) = omega (arith, w, char-lt) in
+      let p : f / 2 ^ (8 * i) % 256 % 8 ≡ fieldIn r i .char = omega (arith, w, char-lt) in
+      ap₂ (λ (s : Slot) (q : ℕ). codeOf ed s (lanes / 2 ^ (8 * q) % 256)) (ap slotOf n ∙ slot-is (fieldIn r i .slot)) p
 
-    place-is : getD t (1792 + (8 * r + i)) 0 ≡ placeIn r i % 64
-    place-is = place-at t e (8 * r + i) (omega arith) ∙ ap₂ (λ (a b : ℕ). placeIn a b % 64) quot rest
+  place-is : (w : ℕ) → w ≡ placesBy r → w / 2 ^ (8 * i) % 64 ≡ placeIn r i % 64
+  place-is w e = ap (λ (n : ℕ). n / 2 ^ (8 * i) % 64) e ∙ eqb→eq (placesBy r / 2 ^ (8 * i) % 64) (placeIn r i % 64) (holds (fineField r i) 5 fine)
 
-    pub lane-lt : getD t (1536 + (8 * r + i)) 0 < 64
-    lane-lt = omega (arith, lane-is, char-lt)
+  pub placed-is : (w : ℕ) → w ≡ placesBy r → (code : ℕ) → code < 2 ^ fieldIn r i .bits → code * 2 ^ (w / 2 ^ (8 * i) % 64) % 2 ^ 64 ≡ 2 ^ placeIn r i * code
+  placed-is w e code h = ap (λ (m : ℕ). code * 2 ^ m % 2 ^ 64) (place-is w e) ∙ go (ltb (placeIn r i) 64) refl
+    where
+      zeroed : 64 ≤ placeIn r i → code ≡ 0
+      zeroed k =
+          let b : fieldIn r i .bits ≡ 0 = omega (arith, place-le) in
+          let w : code < 1 = subst (λ (m : ℕ). code < 2 ^ m) b h in
+          omega arith
 
-    pub from-le : getD t (1664 + (8 * r + i)) 0 ≤ 1280
-    from-le = omega (arith, from-is, codes-le (fieldIn r i .slot))
+      go : (b : Bool) → ltb (placeIn r i) 64 ≡ b → code * 2 ^ (placeIn r i % 64) % 2 ^ 64 ≡ 2 ^ placeIn r i * code
+      go true q =
+          ap (λ (m : ℕ). code * 2 ^ m % 2 ^ 64) (mod-eq-of-lt (ltb-true (placeIn r i) 64 q))
+          ∙ shl-exact (fieldIn r i .bits) (placeIn r i) 64 h (omega (arith, place-le))
+          ∙ mul-comm code (2 ^ placeIn r i)
+      go false q =
+          let z : code ≡ 0 = zeroed (ltb-false (placeIn r i) 64 q) in
+          ap (λ (m : ℕ). m * 2 ^ (placeIn r i % 64) % 2 ^ 64) z
+          ∙ ap (λ (m : ℕ). m % 2 ^ 64) (zero-mul (2 ^ (placeIn r i % 64)))
+          ∙ sym (ap (λ (m : ℕ). 2 ^ placeIn r i * m) z ∙ mul-zero (2 ^ placeIn r i))
 
-    pub place-lt : getD t (1792 + (8 * r + i)) 0 < 64
-    place-lt = omega (arith, place-is)
+-- ---- the codes of the octets
 
-    pub code-is : (lanes : ℕ) → getD t (getD t (1664 + (8 * r + i)) 0 + lanes / 2 ^ getD t (1536 + (8 * r + i)) 0 % 256) 0 ≡ fieldCode (editionIn t) r i lanes
-    code-is lanes =
-        ap₂ (λ (f l : ℕ). getD t (f + lanes / 2 ^ l % 256) 0) from-is lane-is
-        ∙ code-of (fieldIn r i .slot) t e (lanes / 2 ^ (8 * fieldIn r i .char) % 256) (omega arith)
+-- a control character of either edition
+pub control-code : (ed : Edition) (z : ℕ) (ks : List ℕ) → T (each (λ o. has ks o || eqb (codeOf Old Control o) z) 0 256) → T (each (λ o. has ks o || eqb (codeOf New Control o) z) 0 256)
+    → (o : ℕ) → o < 256 → NoneOf ks o → z ≡ codeOf ed Control o
+control-code Old z ks t u o h n = otherwise ks (codeOf Old Control) z 256 t o h n
+control-code New z ks t u o h n = otherwise ks (codeOf New Control) z 256 u o h n
 
-    pub placed-is : (code : ℕ) → code < 2 ^ fieldIn r i .bits → code * 2 ^ getD t (1792 + (8 * r + i)) 0 % 2 ^ 64 ≡ 2 ^ placeIn r i * code
-    placed-is code h = go (ltb (placeIn r i) 64) refl
-      where
-        zeroed : 64 ≤ placeIn r i → code ≡ 0
-        zeroed k =
-            let b : fieldIn r i .bits ≡ 0 = omega (arith, place-le) in
-            let w : code < 1 = subst (λ (m : ℕ). code < 2 ^ m) b h in
-            omega arith
+-- at one octet that both editions have
+pub control-at : (ed : Edition) (o k z : ℕ) → o ≡ k → z ≡ codeOf Old Control k → z ≡ codeOf New Control k → z ≡ codeOf ed Control o
+control-at Old o k z e p q = p ∙ ap (codeOf Old Control) (sym e)
+control-at New o k z e p q = q ∙ ap (codeOf New Control) (sym e)
 
-        go : (b : Bool) → ltb (placeIn r i) 64 ≡ b → code * 2 ^ getD t (1792 + (8 * r + i)) 0 % 2 ^ 64 ≡ 2 ^ placeIn r i * code
-        go true q =
-            ap (λ (m : ℕ). code * 2 ^ m % 2 ^ 64) (place-is ∙ mod-eq-of-lt (ltb-true (placeIn r i) 64 q))
-            ∙ shl-exact (fieldIn r i .bits) (placeIn r i) 64 h (omega (arith, place-le))
-            ∙ mul-comm code (2 ^ placeIn r i)
-        go false q =
-            let z : code ≡ 0 = zeroed (ltb-false (placeIn r i) 64 q) in
-            ap (λ (m : ℕ). m * 2 ^ getD t (1792 + (8 * r + i)) 0 % 2 ^ 64) z
-            ∙ ap (λ (m : ℕ). m % 2 ^ 64) (zero-mul (2 ^ getD t (1792 + (8 * r + i)) 0))
-            ∙ sym (ap (λ (m : ℕ). 2 ^ placeIn r i * m) z ∙ mul-zero (2 ^ placeIn r i))
+-- type 1e has all but fe
+calm-all : (ed : Edition) → T (each (λ o. eqb o 0xfe || eqb (codeOf ed Control o) (codeOf ed Calm o)) 0 256)
+calm-all Old = tt
+calm-all New = tt
+
+pub calm-code : (ed : Edition) (o : ℕ) → o < 256 → (o ≡ 0xfe → ⊥) → codeOf ed Control o ≡ codeOf ed Calm o
+calm-code ed o h n =
+    eqb→eq (codeOf ed Control o) (codeOf ed Calm o)
+    (or-right (eqb o 0xfe) (eqb (codeOf ed Control o) (codeOf ed Calm o)) (at (λ o. eqb o 0xfe || eqb (codeOf ed Control o) (codeOf ed Calm o)) 256 (calm-all ed) o h) (λ t. n (eqb→eq o 0xfe t)))
+
+pub calm-error : (ed : Edition) → 256 ≡ codeOf ed Calm 0xfe
+calm-error Old = refl
+calm-error New = refl

@@ -6,7 +6,7 @@ use Prim.Native.Nat.{ℕ, zero, suc, _+_, _*_, _^_, _<_, _≤_, zero-le}
 use native.Mathlib.Nat.{mul-assoc, mul-add, add-assoc, add-zero, mul-zero, lt-of-lt-of-le, le-of-suc-le-suc, not-suc-le-zero}
 use native.Mathlib.Omega.{arith}
 use native.Mathlib.Numerals.{add-one}
-use lib.Dec.{T, leb, ltb, ltb→lt}
+use lib.Dec.{T, leb, ltb}
 use lib.ListN.{length, getD, take}
 use lib.Seq.{take-suc, take-all}
 use lib.Pow.{pow-mono, pow-add}
@@ -14,10 +14,10 @@ use borrow.Author.Tests.{lt-ltb, le-ltb}
 use Rattle.block.specs.declared.Edition.{Edition}
 use Rattle.block.specs.Block.{Field, d, sentCode, packed, carries, payloadOf}
 use Rattle.block.specs.Rows.{width, bitsOf, row}
-use Rattle.block.proofs.Tests.{is-true, at}
+use Rattle.block.proofs.Tests.{is-true}
 use Rattle.block.proofs.Formats.{roomy, sound-length, sound-roomy, sound-bits, sound-type, row-sound}
 use Rattle.block.proofs.Sending.{field-lt, packed-lt, above-lt}
-use Rattle.tables.specs.Tables.{fieldIn, placeIn}
+use Rattle.encoding.specs.Parts.{fieldIn, placeIn}
 use Rattle.encoding.specs.declared.Sum.{Sum}
 use Rattle.encoding.specs.Parts.{sumBy}
 use Rattle.encoding.proofs.Fields.{field-room}
@@ -37,9 +37,6 @@ bits-take : (fs : List Field) (m : ℕ) → bitsOf (take m fs) ≤ bitsOf fs
 bits-take fs zero = zero-le
 bits-take [] (suc m) = zero-le
 bits-take (f ∷ fs) (suc m) = omega (arith, bits-take fs m)
-
-pub type-lt : (r : ℕ) → r < 16 → row r .type < 256
-type-lt r h = ltb→lt (row r .type) 256 (at (λ (q : ℕ). ltb (row q .type) 256) 16 tt r h)
 
 module _ (ed : Edition) where
   -- ---- one field more

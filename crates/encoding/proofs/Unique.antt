@@ -7,16 +7,15 @@ use Rattle.refusals.specs.Number.{numberOf}
 use Rattle.refusals.proofs.Laws.{number-injective}
 use Rattle.block.specs.declared.Edition.{Edition}
 use Rattle.block.specs.Block.{twoWords, carrier, encodeAnswer}
-use Rattle.tables.specs.Tables.{editionIn}
 use Rattle.encoding.specs.declared.Coded.{Coded}
 use Rattle.encoding.specs.declared.Encoded.{Encoded}
 use Rattle.encoding.specs.declared.Encoded.the-variants.{Refused, Invalid, Block}
 use Rattle.encoding.specs.Answer.{codedOf, answerOf}
 use Rattle.encoding.specs.Parts.{lanesAt}
 
-pub encode-unique : (t : List ℕ) (c0 d0 c1 d1 : ℕ) (r r′ : Coded)
-    → r ≡ codedOf (carrier (editionIn t) (twoWords c0 d0 c1 d1)) → r′ ≡ codedOf (carrier (editionIn t) (twoWords c0 d0 c1 d1)) → r ≡ r′
-encode-unique t c0 d0 c1 d1 r r′ p q = p ∙ sym q
+pub encode-unique : (ed : Edition) (c0 d0 c1 d1 : ℕ) (r r′ : Coded)
+    → r ≡ codedOf (carrier ed (twoWords c0 d0 c1 d1)) → r′ ≡ codedOf (carrier ed (twoWords c0 d0 c1 d1)) → r ≡ r′
+encode-unique ed c0 d0 c1 d1 r r′ p q = p ∙ sym q
 
 pub lanes-at-unique : (v : List ℕ) (p r r′ : ℕ) → r ≡ lanesAt v p → r′ ≡ lanesAt v p → r ≡ r′
 lanes-at-unique v p r r′ e q = e ∙ sym q

@@ -1,16 +1,18 @@
 // One vector to be sent: the block that carries it.
 ghost use mathlib.Core.Path.{_≡_};
+ghost use mathlib.Core.Bool.{true, false};
 ghost use mathlib.Core.List.{List};
-ghost use Prim.Native.Nat.{_+_, _*_, _<_, _≤_, _^_};
+ghost use Prim.Native.Nat.{ℕ, _+_, _*_, _<_, _≤_, _^_};
 ghost use lib.ListN.{length};
-ghost use Rattle.block.specs.Block.{twoWords, carrier, encodeAnswer};
+ghost use Rattle.block.specs.Block.{Control, codeOf, twoWords, carrier, encodeAnswer};
 ghost use Rattle.block.specs.Rows.{row, SameFlags};
-ghost use Rattle.tables.specs.Tables.{editionIn, LentToEncode, fieldIn, placeIn};
 ghost use Rattle.encoding.specs.Answer.{codedOf, answerOf};
-ghost use Rattle.encoding.specs.Parts.{spread, fieldCode, sumBy, lanesAt, encodedOf};
+ghost use Rattle.encoding.specs.Parts.{spread, slotOf, fieldIn, fieldCode, placeIn, sumBy, Quickly, lanesAt, encodedOf};
 use block::Edition;
 use block::Kind;
 use refusals::Refusal;
+
+mod rows;
 
 // The block of a vector. A vector that no block carries is of kind E, with the block that is sent in state E.
 pub struct Coded {
@@ -32,44 +34,86 @@ struct Sum {
     payload: u64,
 }
 
-// The code of field i of row r for its octet of the eight, not below 256 where it has none.
-fn field_code(t: &[u16; 2208], r: usize, i: usize, lanes: u64) -> u16
-    requires { ⌜ (r < 16) × (i < 8) × LentToEncode (now t) ⌝ }
-    ensures { λ z. ⌜ z ≡ fieldCode (editionIn (now (t .entry))) r i lanes ⌝ }
+// The code of a control character, 256 where the edition has none.
+fn control_code(edition: Edition, octet: u64) -> u64
+    requires { ⌜ octet < 256 ⌝ }
+    ensures { λ z. ⌜ z ≡ codeOf edition Control octet ⌝ }
 {
-    let k = 8 * r + i;
-    let lane = t[tables::LANE + k];
-    let from = t[tables::FROM + k];
-    let octet = (lanes >> lane) % 256;
-    t[from as usize + octet as usize]
+    match octet {
+        0x06 => match edition {
+            Edition::Old => 256,
+            Edition::New => 0x06,
+        },
+        0x07 => 0x00,
+        0x1c => 0x2d,
+        0x3c => 0x33,
+        0x7c => 0x4b,
+        0xbc => 0x55,
+        0xdc => 0x66,
+        0xf7 => 0x78,
+        0xfe => 0x1e,
+        _ => 256,
+    }
+}
+
+// The code of an octet in a slot, not below 256 where it has none.
+fn code_of(edition: Edition, slot: u64, octet: u64) -> u64
+    requires { ⌜ octet < 256 ⌝ }
+    ensures { λ z. ⌜ z ≡ codeOf edition (slotOf slot) octet ⌝ }
+{
+    match slot {
+        0 => octet,
+        1 => control_code(edition, octet),
+        2 => if octet == 0xfe {
+            256
+        } else {
+            control_code(edition, octet)
+        },
+        3 => match octet {
+            0x5c => 15,
+            0x9c => 0,
+            _ => 512,
+        },
+        4 => if octet == 0xfb { 0 } else { 256 },
+        _ => if octet == 0xfd { 0 } else { 256 },
+    }
+}
+
+// The code of field i of row r for its octet of the eight, not below 256 where it has none.
+fn field_code(edition: Edition, r: usize, i: usize, lanes: u64) -> u64
+    requires { ⌜ (r < 16) × (i < 8) ⌝ }
+    ensures { λ z. ⌜ z ≡ fieldCode edition r i lanes ⌝ }
+{
+    let field = (rows::fields_of(r) >> (8 * i)) % 256;
+    let octet = (lanes >> (8 * (field % 8))) % 256;
+    code_of(edition, field / 8, octet)
 }
 
 // A code at the place of field i of row r.
-fn placed(t: &[u16; 2208], r: usize, i: usize, code: u64) -> u64
-    requires { ⌜ (r < 16) × (i < 8) × (code < 2 ^ fieldIn r i .bits) × LentToEncode (now t) ⌝ }
+fn placed(r: usize, i: usize, code: u64) -> u64
+    requires { ⌜ (r < 16) × (i < 8) × (code < 2 ^ fieldIn r i .bits) ⌝ }
     ensures { λ z. ⌜ z ≡ 2 ^ placeIn r i * code ⌝ }
 {
-    let k = 8 * r + i;
-    let place = t[tables::PLACE + k];
+    let place = (rows::places_of(r) >> (8 * i)) % 64;
     code << place
 }
 
 // The payload of row r, whose control bits are the vector's; c0 and c1 say which vector the lanes belong to.
-fn pack(t: &[u16; 2208], r: usize, c0: u8, c1: u8, lanes: u64) -> Sum
-    requires { ⌜ (r < 16) × SameFlags (spread c0 c1 lanes) (row r) × LentToEncode (now t) ⌝ }
-    ensures { λ z. ⌜ z ≡ sumBy (editionIn (now (t .entry))) (spread c0 c1 lanes) (row r) ⌝ }
+fn pack(edition: Edition, r: usize, c0: u8, c1: u8, lanes: u64) -> Sum
+    requires { ⌜ (r < 16) × SameFlags (spread c0 c1 lanes) (row r) ⌝ }
+    ensures { λ z. ⌜ z ≡ sumBy edition (spread c0 c1 lanes) (row r) ⌝ }
 {
-    let mut payload = t[tables::TYPE + r] as u64;
+    let mut payload = rows::type_of(r);
     let mut i = 0;
     while i < 8 {
-        let code = field_code(t, r, i, lanes);
+        let code = field_code(edition, r, i, lanes);
         if 256 <= code {
             return Sum {
                 fits: false,
                 payload: 0,
             };
         }
-        payload = payload + placed(t, r, i, code as u64);
+        payload = payload + placed(r, i, code);
         i = i + 1;
     }
     Sum {
@@ -79,14 +123,13 @@ fn pack(t: &[u16; 2208], r: usize, c0: u8, c1: u8, lanes: u64) -> Sum
 }
 
 // A vector with a control character: the rows with its control bits are tried one after the other.
-fn encode_rows(t: &[u16; 2208], c0: u8, c1: u8, lanes: u64) -> Coded
-    requires { ⌜ (c0 ≤ 15) × (c1 ≤ 15) × (0 < c0 + 16 * c1) × LentToEncode (now t) ⌝ }
-    ensures { λ z. ⌜ z ≡ codedOf (carrier (editionIn (now (t .entry))) (spread c0 c1 lanes)) ⌝ }
+fn encode_rows(edition: Edition, c0: u8, c1: u8, lanes: u64) -> Coded
+    requires { ⌜ (c0 ≤ 15) × (c1 ≤ 15) × (0 < c0 + 16 * c1) ⌝ }
+    ensures { λ z. ⌜ z ≡ codedOf (carrier edition (spread c0 c1 lanes)) ⌝ }
 {
-    let m = c0 as usize + 16 * (c1 as usize);
-    let mut r = t[tables::FIRST + m] as usize;
+    let mut r = rows::first_row(c0 as u64 + 16 * (c1 as u64));
     while r < 16 {
-        let s = pack(t, r, c0, c1, lanes);
+        let s = pack(edition, r, c0, c1, lanes);
         if s.fits {
             return Coded {
                 kind: tables::kind_of(
@@ -100,7 +143,7 @@ fn encode_rows(t: &[u16; 2208], c0: u8, c1: u8, lanes: u64) -> Coded
                 payload: s.payload,
             };
         }
-        r = t[tables::NEXT + r] as usize;
+        r = rows::next_row(r);
     }
     Coded {
         kind: Kind::E,
@@ -109,41 +152,165 @@ fn encode_rows(t: &[u16; 2208], c0: u8, c1: u8, lanes: u64) -> Coded
     }
 }
 
-// A vector as two words: control bytes and lanes, lane 0 lowest. The tables are those of the crate tables.
-pub fn encode(t: &[u16; 2208], c0: u8, d0: u32, c1: u8, d1: u32) -> Coded
-    requires { ⌜ (c0 ≤ 15) × (c1 ≤ 15) × LentToEncode (now t) ⌝ }
-    ensures { λ r. ⌜ r ≡ codedOf (carrier (editionIn (now (t .entry))) (twoWords c0 d0 c1 d1)) ⌝ }
+// What a look at all eight octets tells: whether that is all there is to ask, and then the block.
+struct Known {
+    there: bool,
+    kind: Kind,
+    header: u64,
+    payload: u64,
+}
+
+fn found(kind: Kind, payload: u64) -> Known
+    ensures { λ z. ⌜ z ≡ record { there = true; kind = kind; header = 1; payload = payload } ⌝ }
 {
-    let lanes = d0 as u64 + d1 as u64 * 4294967296;
-    let m = c0 as u64 + 16 * (c1 as u64);
-    if m == 0 {
-        return Coded {
+    Known {
+        there: true,
+        kind: kind,
+        header: 1,
+        payload: payload,
+    }
+}
+
+fn not_found() -> Known
+    ensures { λ z. ⌜ z .there ≡ false ⌝ }
+{
+    Known {
+        there: false,
+        kind: Kind::E,
+        header: 0,
+        payload: 0,
+    }
+}
+
+// How many data octets stand before control characters alone; 8 where no such number does. The numbers of each control byte stand in one
+// word, four bits for each.
+fn before(c0: u8, c1: u8) -> u64
+    requires { ⌜ (c0 ≤ 15) × (c1 ≤ 15) ⌝ }
+    ensures { λ k. ⌜ (k < 8 → c0 + 16 * c1 + 2 ^ k ≡ 256) × ((j : ℕ) → j < 8 → c0 + 16 * c1 + 2 ^ j ≡ 256 → k ≡ j) ⌝ }
+{
+    let numbers: u64 = 0x01f2_fff3_ffff_fff4;
+    let k = (numbers >> (4 * (c0 as u64))) % 16 + (numbers >> (4 * (c1 as u64))) % 16;
+    if k < 8 {
+        if c0 as u64 + 16 * (c1 as u64) + (1 << k) == 256 {
+            return k;
+        }
+    }
+    8
+}
+
+// k data octets, Terminate and idles; or eight idles.
+fn quick_end(k: u64, c0: u8, c1: u8, lanes: u64) -> Known
+    requires { ⌜ (k < 8) × (c0 ≤ 15) × (c1 ≤ 15) × (c0 + 16 * c1 + 2 ^ k ≡ 256) ⌝ }
+    ensures { λ z. ⌜ Quickly c0 c1 lanes z ⌝ }
+{
+    let end: u64 = 0x0707_0707_0707_07fd << (8 * k);
+    if lanes >> (8 * k) == end >> (8 * k) {
+        let code = (0xffe1_d2cc_b4aa_9987 >> (8 * k)) % 256;
+        return found(Kind::T, ((lanes - end) << 8) + code);
+    }
+    if k == 0 {
+        if lanes == 0x0707_0707_0707_0707 {
+            return found(Kind::C, 0x1e);
+        }
+    }
+    not_found()
+}
+
+// Data octets after a control character: a Start, in either word, after idles; two ordered sets; or what no block carries.
+fn quick_other(c0: u8, c1: u8, lanes: u64) -> Known
+    requires { ⌜ (c0 ≤ 15) × (c1 ≤ 15) × (0 < c0 + 16 * c1) × ((j : ℕ) → j < 8 → c0 + 16 * c1 + 2 ^ j ≡ 256 → ⊥) ⌝ }
+    ensures { λ z. ⌜ Quickly c0 c1 lanes z ⌝ }
+{
+    match c0 as u64 + 16 * (c1 as u64) {
+        0x01 => if lanes % 256 == 0xfb {
+            found(Kind::S, lanes - 0xfb + 0x78)
+        } else {
+            not_found()
+        },
+        0x11 => if lanes % 256 == 0x9c {
+            if (lanes >> 32) % 256 == 0x9c {
+                found(Kind::C, lanes - 0x9c_0000_009c + 0x55)
+            } else {
+                not_found()
+            }
+        } else {
+            not_found()
+        },
+        0x1f => if lanes % 0x0100_0000_0000 == 0xfb_0707_0707 {
+            found(Kind::S, lanes - 0xfb_0707_0707 + 0x33)
+        } else {
+            not_found()
+        },
+        0xf1 => not_found(),
+        _ => found(Kind::E, 0x3c78_f1e3_c78f_1e1e),
+    }
+}
+
+fn quick(c0: u8, c1: u8, lanes: u64) -> Known
+    requires { ⌜ (c0 ≤ 15) × (c1 ≤ 15) ⌝ }
+    ensures { λ z. ⌜ Quickly c0 c1 lanes z ⌝ }
+    ensures { λ z. ⌜ (z .there ≡ false → 0 < c0 + 16 * c1) ⌝ }
+{
+    if c0 as u64 + 16 * (c1 as u64) == 0 {
+        return Known {
+            there: true,
             kind: Kind::D,
             header: 2,
             payload: lanes,
         };
     }
-    if m == 255 {
-        // eight idles
-        if lanes == 0x0707070707070707 {
-            return Coded {
-                kind: Kind::C,
-                header: 1,
-                payload: 0x1e,
-            };
+    let k = before(c0, c1);
+    if k < 8 {
+        return quick_end(k, c0, c1, lanes);
+    }
+    quick_other(c0, c1, lanes)
+}
+
+// A vector as two words: control bytes and lanes, lane 0 lowest. What the rows answer is handed on field by field, and asked for at two
+// places: so the compiler keeps it out of the quick way.
+pub fn encode(edition: Edition, c0: u8, d0: u32, c1: u8, d1: u32) -> Coded
+    requires { ⌜ (c0 ≤ 15) × (c1 ≤ 15) ⌝ }
+    ensures { λ r. ⌜ r ≡ codedOf (carrier edition (twoWords c0 d0 c1 d1)) ⌝ }
+{
+    let lanes = d0 as u64 + d1 as u64 * 4294967296;
+    let q = quick(c0, c1, lanes);
+    if q.there {
+        let kind = q.kind;
+        return Coded {
+            kind: kind,
+            header: q.header,
+            payload: q.payload,
+        };
+    }
+    match edition {
+        Edition::Old => {
+            let e = encode_rows(Edition::Old, c0, c1, lanes);
+            let kind = e.kind;
+            Coded {
+                kind: kind,
+                header: e.header,
+                payload: e.payload,
+            }
         }
-        // eight low power idles, if the edition has them
-        if lanes == 0x0606060606060606 {
-            if t[tables::LOW_POWER] < 256 {
-                return Coded {
-                    kind: Kind::LI,
-                    header: 1,
-                    payload: 0x0c183060c183061e,
-                };
+        Edition::New => {
+            if lanes == 0x0606_0606_0606_0606 {
+                if c0 as u64 + 16 * (c1 as u64) == 255 {
+                    return Coded {
+                        kind: Kind::LI,
+                        header: 1,
+                        payload: 0x0c18_3060_c183_061e,
+                    };
+                }
+            }
+            let e = encode_rows(Edition::New, c0, c1, lanes);
+            let kind = e.kind;
+            Coded {
+                kind: kind,
+                header: e.header,
+                payload: e.payload,
             }
         }
     }
-    encode_rows(t, c0, c1, lanes)
 }
 
 fn wide(x: u8) -> u32
@@ -189,8 +356,7 @@ pub fn encode_vector(edition: Edition, v: &[u8]) -> Encoded
     if 15 < c1 {
         return Encoded::Refused(Refusal::ControlByte, 5);
     }
-    let t = tables::encode_tables(edition);
     let d0 = lanes_at(v, 1);
     let d1 = lanes_at(v, 6);
-    answer(encode(&t, c0, d0, c1, d1))
+    answer(encode(edition, c0, d0, c1, d1))
 }

@@ -13,9 +13,10 @@ use borrow.Author.Tests.{ltb-true}
 use Rattle.bits.specs.Bits.{bit, number, lineBit, lineBits}
 use Rattle.bits.proofs.Laws.{by-lt, number-lt}
 use Rattle.bits.proofs.Lists.{lineBit-lt}
-use Rattle.block.specs.Block.{decoded, classOf, kindIn, isError}
+use Rattle.block.specs.Block.{twoWords, decoded, classOf, kindFor, kindIn, isError}
 use Rattle.block.proofs.Classes.{class-no-header}
 use Rattle.block.specs.declared.Edition.{Edition}
+use Rattle.block.specs.declared.Edition.the-variants.{Old, New}
 use Rattle.block.specs.declared.Kind.{Kind}
 use Rattle.block.specs.declared.Kind.the-variants as Kind
 use Rattle.block.specs.declared.Class.{Class}
@@ -27,7 +28,6 @@ use Rattle.carrying.specs.declared.Taken.{Taken}
 use Rattle.carrying.proofs.Laws.{takes-whole}
 use Rattle.decoding.specs.Vector.{vectorBytes}
 use Rattle.decoding.specs.declared.Vector.{Vector}
-use Rattle.decoding.proofs.Rows.{data-answer, idle-answer}
 use Rattle.diagrams.specs.Lock.{lockOf, slipsOf}
 use Rattle.diagrams.specs.Rate.{rateOf}
 use Rattle.diagrams.specs.Diagram.{diagramOf, afterIdle, afterData, afterError, afterLow, stateNumber, follows}
@@ -84,6 +84,26 @@ data-data e = refl
 pub control-control : (e : Bool) → diagramOf Control Kind.C e ≡ Control
 unfolding diagramOf afterIdle
 control-control e = refl
+
+-- ---- a whole block, where nothing is carried
+
+-- what is taken from the line
+abbrev pub whole : Progress → (header payload : ℕ) → Taken
+whole p header payload = record { full = true; header = header; payload = payload; carried = p .receiver .carried; next = p .pos + 66 }
+
+-- nothing is carried: no bit is set
+pub carried-none : (c : Carried) → Sound c → c .count ≡ 0 → (c .count ≡ 0) × (c .header ≡ 0) × (c .payload ≡ 0)
+carried-none c s none =
+    let small : c .header + 4 * c .payload < 1 = subst (λ (n : ℕ). c .header + 4 * c .payload < 2 ^ n) none (s .fits) in
+    (none, omega arith, omega arith)
+
+pub whole-taken : (line : List ℕ) (p : Progress) (header payload : ℕ) → Sound (p .receiver .carried) → p .receiver .skip ≡ false → p .receiver .carried .count ≡ 0
+    → p .pos + 66 ≤ 8 * length line → header ≡ headerAt line (p .pos) → payload ≡ payloadAt line (p .pos)
+    → Takes (lineBits line) (p .pos) (p .receiver .skip) (p .receiver .carried) (whole p header payload)
+whole-taken line p header payload s skip none here eh ep =
+    let c = p .receiver .carried in
+    subst (λ (b : Bool). Takes (lineBits line) (p .pos) b c (whole p header payload)) (sym skip)
+    (takes-whole line (p .pos) c (omega (arith, here)) (whole p header payload) none here refl (carried-none c s none) refl eh ep)
 
 -- ---- one block with a valid header
 
@@ -148,15 +168,10 @@ module _ (line room : List ℕ) (p : Progress) (header payload : ℕ) (cm : Come
 
     -- what is taken from the line
     abbrev takes : Taken
-    takes = record { full = true; header = header; payload = payload; carried = p .receiver .carried; next = p .pos + 66 }
+    takes = whole p header payload
 
     taken-is : Takes (lineBits line) (p .pos) (p .receiver .skip) (p .receiver .carried) takes
-    taken-is =
-        let c = p .receiver .carried in
-        let none = cm .lock .none in
-        let small : c .header + 4 * c .payload < 1 = subst (λ (n : ℕ). c .header + 4 * c .payload < 2 ^ n) none (cm .under .sound .fits) in
-        subst (λ (b : Bool). Takes (lineBits line) (p .pos) b c takes) (sym (cm .lock .skip))
-        (takes-whole line (p .pos) c (omega (arith, cm .here)) takes none (omega (arith, cm .here)) refl (none, omega arith, omega arith) refl (cm .header) (cm .payload))
+    taken-is = whole-taken line p header payload (cm .under .sound) (cm .lock .skip) (cm .lock .none) (omega (arith, cm .here)) (cm .header) (cm .payload)
 
     -- the vector of the block held fits the room
     pub one-fits : p .at + 10 ≤ length room
@@ -227,6 +242,15 @@ good-valid ed h x k small e g =
     bad : (h ≡ 2 → ⊥) → (h ≡ 1 → ⊥) → isError (kindIn k) ≡ true
     bad n m = ap (λ (z : Class). isError (kindIn z)) (e ∙ class-no-header ed h x n m)
 
+-- a block of eight idles
+idle-block : (ed : Edition) → (Class.C ≡ classOf ed 1 0x1e) × (twoWords 15 0x07070707 15 0x07070707 ≡ decoded ed 1 0x1e)
+unfolding classOf decoded kindFor
+idle-block Old = (refl, refl)
+idle-block New = (refl, refl)
+
+pub idle-answer : (ed : Edition) (x : ℕ) → x ≡ 0x1e → (Class.C ≡ classOf ed 1 x) × (twoWords 15 0x07070707 15 0x07070707 ≡ decoded ed 1 x)
+idle-answer ed x e = subst (λ (x : ℕ). (Class.C ≡ classOf ed 1 x) × (twoWords 15 0x07070707 15 0x07070707 ≡ decoded ed 1 x)) (sym e) (idle-block ed)
+
 -- ---- one block, by the code's values
 
 module _ (line room : List ℕ) (p : Progress) (header payload : ℕ) (cm : Comes line room p header payload) (k : Class) (v : Vector) (is : Is p header payload k v)
@@ -266,7 +290,7 @@ module _ (line room : List ℕ) (p : Progress) (header payload : ℕ) (cm : Come
 -- ---- stretches
 
 -- turns after turns
-turns-more : (line r₀ r₁ r₂ : List ℕ) (p q t : Progress) → Turns line r₀ r₁ p q → Turns line r₁ r₂ q t → Turns line r₀ r₂ p t
+pub turns-more : (line r₀ r₁ r₂ : List ℕ) (p q t : Progress) → Turns line r₀ r₁ p q → Turns line r₁ r₂ q t → Turns line r₀ r₂ p t
 turns-more line r₀ r₁ r₂ p q t a b =
     let n : t .at ≡ q .at + (t .at - q .at) = omega (arith, b .grows) in
     record {

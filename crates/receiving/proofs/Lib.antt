@@ -10,6 +10,7 @@ pub mod Counted
 pub mod Settle
 pub mod Turning
 pub mod InLock
+pub mod Unlocked
 pub mod Closing
 pub mod Verdict
 pub mod Unique

@@ -35,7 +35,7 @@ use Rattle.receiving.proofs.Settle.{put-take, put-drop, put-length, hel
 -- ---- the run from here, by what is taken
 
 -- a receiver's feed by its parts
-feedOf : List ℕ → Bool → Link → Feed
+unfoldable pub feedOf : List ℕ → Bool → Link → Feed
 unfolding feedIn
 feedOf bits skip l = record { bits = bits; skip = skip; link = l }
 
@@ -57,7 +57,7 @@ wait-run B pos next false c c′ l h past one e few =
     ∙ ap₂ (λ (x z : List ℕ). run (feedOf x false l) z) (sym e) (drop-drop n pos B ∙ ap (λ (k : ℕ). drop k B) m)
 
 -- bits that fill a block
-fill-run : (B : List ℕ) (pos next : ℕ) (c : List ℕ) (l : Link) (h q : ℕ) → pos < next → length c < 66
+pub fill-run : (B : List ℕ) (pos next : ℕ) (c : List ℕ) (l : Link) (h q : ℕ) → pos < next → length c < 66
     → length (c ++ take (next - pos) (drop pos B)) ≡ 66
     → h ≡ headerOf (c ++ take (next - pos) (drop pos B))
     → q ≡ payloadOf (c ++ take (next - pos) (drop pos B))
@@ -147,7 +147,7 @@ moved p t link h s at c n =
     }
 
 -- outcomes with equal parts
-outcome-same : (b b′ : List ℕ) (s s′ : State) (h h′ : List Tested) (c c′ : Counts) (n n′ : Handed) (e : Feed) → b ≡ b′ → s ≡ s′ → h ≡ h′ → c ≡ c′ → n ≡ n′
+pub outcome-same : (b b′ : List ℕ) (s s′ : State) (h h′ : List Tested) (c c′ : Counts) (n n′ : Handed) (e : Feed) → b ≡ b′ → s ≡ s′ → h ≡ h′ → c ≡ c′ → n ≡ n′
     → _≡_ {A = Outcome} (record { bytes = b; state = s; held = h; counts = c; handed = n; end = e })
     (record { bytes = b′; state = s′; held = h′; counts = c′; handed = n′; end = e })
 outcome-same b b′ s s′ h h′ c c′ n n′ e p q r u v = rw (p, q, r, u, v)

@@ -8,3 +8,4 @@ pub mod Ranges
 pub mod Counted
 pub mod Loop
 pub mod InLock
+pub mod Unlocked

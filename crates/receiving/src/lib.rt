@@ -30,6 +30,8 @@ mod counting;
 mod answering;
 // locked.rt: blocks in lock, some at once
 mod locked;
+// hunting.rt: blocks while not locked
+mod hunting;
 
 // The edition in use, and what each tested block updates: lock, error rate, and the last 58 payload bits of the line, the oldest at bit 0.
 pub struct Link {
@@ -164,9 +166,9 @@ fn turn(line: &[u8], room: &mut [u8], p: Progress) -> Progress
     }
 }
 
-// A receiver over all bits of the line, from a receiver as it stands: the vectors go to the room, but for that of the last block,
-// which is held.
-fn receive_bits(line: &[u8], room: &mut [u8], start: Receiver) -> Progress
+// A receiver over one more part of a line: the vectors go to the start of the room, but for that of the last block, which is held. Each turn
+// begins with as many blocks as go by quick ways.
+pub fn receive_more(line: &[u8], room: &mut [u8], start: Receiver) -> Progress
     requires { ⌜ (length (now line) ≤ 825000) × InRange (start .link) × Sound (start .carried) × (length (written start (now line)) ≤ length (now room)) ⌝ }
     ensures { λ p. ⌜ Ends (now (line .entry)) (now (room .entry)) (now (room .exit)) start p ⌝ }
 {
@@ -189,17 +191,11 @@ fn receive_bits(line: &[u8], room: &mut [u8], start: Receiver) -> Progress
         },
     };
     while p.pos < bits {
+        p = locked::stretch(line, room, p);
+        p = hunting::hunt(line, room, p);
         p = turn(line, room, p);
     }
     p
-}
-
-// A receiver over one more part of a line: the vectors go to the start of the room, but for that of the last block, which is held.
-pub fn receive_more(line: &[u8], room: &mut [u8], start: Receiver) -> Progress
-    requires { ⌜ (length (now line) ≤ 825000) × InRange (start .link) × Sound (start .carried) × (length (written start (now line)) ≤ length (now room)) ⌝ }
-    ensures { λ p. ⌜ Ends (now (line .entry)) (now (room .entry)) (now (room .exit)) start p ⌝ }
-{
-    receive_bits(line, room, start)
 }
 
 // The end of the input: the vector of the block that is held, if there is one, goes to the room.

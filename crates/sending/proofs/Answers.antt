@@ -1,6 +1,6 @@
 -- What the whole list gives, as the definitions say it. Assumes nothing.
 use Prim.Native.Nat.{ℕ, _+_, _*_, _/_}
-use mathlib.Core.Path.{_≡_, ap, _∙_, subst}
+use mathlib.Core.Path.{_≡_, ap, _∙_}
 use mathlib.Core.List.{List, _++_}
 use native.Mathlib.Nat.{zero-add}
 use lib.ListN.{length, drop}
@@ -13,10 +13,6 @@ use Rattle.sending.specs.Send.{vectorsOf, blocksFor, sentLine, stateAfte
 use Rattle.sending.specs.Answer.{sent, sentFor}
 use Rattle.sending.specs.declared.Sender.{Sender}
 use Rattle.sending.specs.Sends.{Fills}
-
--- in the edition of the tables that were lent
-pub filled-in : {s r : Sender} {bytes before after : List ℕ} (d ed : Edition) → d ≡ ed → Fills d s bytes before after r → Fills ed s bytes before after r
-filled-in {s} {r} {bytes} {before} {after} d ed e f = subst (λ (x : Edition). Fills x s bytes before after r) e f
 
 module _ (ed : Edition) where
   length-line : (bytes : List ℕ) (start : ℕ) → length (sentLine ed bytes start) ≡ 33 * (length bytes / 40)

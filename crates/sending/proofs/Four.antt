@@ -1,60 +1,113 @@
--- The loop over the four vectors of a group. Assumes nothing.
-use Prim.Native.Nat.{ℕ, zero, suc, _+_, _*_, _^_, _≤_, _<_, _-_}
-use mathlib.Core.Path.{_≡_, refl, subst}
-use mathlib.Core.List.{List, [], _∷_, _++_}
+-- Four vectors sent one after the other. Assumes nothing.
+use Prim.Native.Nat.{ℕ, _+_, _*_, _/_, _%_, _^_, _≤_, _<_}
+use mathlib.Core.Path.{_≡_, refl, ap, _∙_, subst, sym}
+use mathlib.Core.List.{List, [], _∷_}
+use native.Mathlib.Nat.{add-zero}
 use native.Mathlib.Omega.{arith}
-use lib.ListN.{take, drop}
-use Rattle.line.specs.Word.{word}
-use Rattle.line.specs.declared.Block.{Block}
+use lib.ListN.{length, getD, take, drop}
+use lib.Seq.{drop-drop}
 use Rattle.block.specs.declared.Edition.{Edition}
+use Rattle.block.specs.declared.Kind.the-variants.{D}
+use Rattle.block.specs.Block.{carrier}
+use Rattle.encoding.specs.Answer.{codedOf}
+use Rattle.encoding.specs.Parts.{lanesAt}
+use Rattle.encoding.proofs.Answers.{data-coded, idle-coded}
 use Rattle.sending.specs.Send.{vectorsIn}
 use Rattle.sending.specs.declared.Sender.{Sender}
 use Rattle.sending.specs.declared.Step.{Step}
-use Rattle.sending.specs.Sends.{Sends, Steps, wordsOf, TwoBits, Groups}
-use Rattle.sending.proofs.Laws.{vectors-more, length-vectors, sends-none, sends-join, sends-few, sends-history}
+use Rattle.sending.specs.Sends.{octetsAt, Codes, idleCoded, controlsAt, Low, Sends, Steps, wordsOf, Groups}
+use Rattle.sending.proofs.Laws.{vector-read, sends-join}
 
--- one more block moves up
-moved : (a b c d e k : ℕ) → k < 4 → drop (4 - (k + 1)) (b ∷ c ∷ d ∷ e ∷ []) ≡ drop (4 - k) (a ∷ b ∷ c ∷ d ∷ []) ++ (e ∷ [])
-moved a b c d e zero l = refl
-moved a b c d e (suc zero) l = refl
-moved a b c d e (suc (suc zero)) l = refl
-moved a b c d e (suc (suc (suc zero))) l = refl
-moved a b c d e (suc (suc (suc (suc k)))) l = absurd (omega arith)
+-- the four vectors from a place on
+four-vectors : (bytes : List ℕ) (at : ℕ)
+    → take 10 (drop at bytes) ∷ take 10 (drop (at + 10) bytes) ∷ take 10 (drop (at + 20) bytes) ∷ take 10 (drop (at + 30) bytes) ∷ [] ≡ vectorsIn 4 (drop at bytes)
+unfolding vectorsIn
+four-vectors bytes at =
+    let b : drop (at + 10) bytes ≡ drop 10 (drop at bytes) = sym (drop-drop 10 at bytes) in
+    let c : drop (at + 20) bytes ≡ drop 10 (drop 10 (drop at bytes)) = sym (drop-drop 10 10 (drop at bytes) ∙ drop-drop 20 at bytes) in
+    let d : drop (at + 30) bytes ≡ drop 10 (drop 10 (drop 10 (drop at bytes))) = sym (drop-drop 10 10 (drop 10 (drop at bytes)) ∙ drop-drop 20 10 (drop at bytes) ∙ drop-drop 30 at bytes) in
+    λ i. take 10 (drop at bytes) ∷ take 10 (b i) ∷ take 10 (c i) ∷ take 10 (d i) ∷ []
 
 module _ (ed : Edition) where
-  -- After k vectors the last k of the four blocks are theirs.
-  pub record Four (bytes : List ℕ) (s : Sender) (a b c d : Block) (next : Sender) (k : ℕ) : Type 0 where
-    pub upto : k ≤ 4
-    pub sends : Sends ed s (vectorsIn k bytes) (drop (4 - k) (wordsOf a b c d)) next
-    pub headers : TwoBits a b c d
-
-  pub first : (bytes : List ℕ) (s : Sender) (b : Block) → b .header < 4 → Four bytes s b b b b s 0
-  unfolding vectorsIn
-  first bytes s b l = record { upto = omega arith; sends = sends-none ed s; headers = record { first = l; second = l; third = l; fourth = l } }
-
-  module _ (bytes : List ℕ) (s : Sender) (a b c d : Block) (next : Sender) (k : ℕ) (inv : Four bytes s a b c d next k) where
-    pub few : next .replaced ≤ s .replaced + k
-    few = omega (arith, sends-few ed s next (vectorsIn k bytes) _ (inv .sends), length-vectors k bytes)
-
-    pub small : s .history < 2 ^ 58 → next .history < 2 ^ 58
-    small l = sends-history ed s next (vectorsIn k bytes) _ (inv .sends) l
-
-    pub turn : (r : Step) → k < 4 → Steps ed next (take 10 (drop (10 * k) bytes)) r → Four bytes s b c d (r .block) (r .next) (k + 1)
-    turn r l step =
-        record {
-          upto = omega arith;
-          sends =
-              rw (vectors-more k bytes, moved (word a) (word b) (word c) (word d) (word (r .block)) k l)
-              (sends-join ed s next (r .next) (vectorsIn k bytes) _ _ _ (inv .sends) (step .sends));
-          headers =
-              record { first = inv .headers .second; second = inv .headers .third; third = inv .headers .fourth; fourth = step .header };
-        }
-
-  pub done : (bytes : List ℕ) (s : Sender) (a b c d : Block) (next : Sender) (k : ℕ) → Four bytes s a b c d next k → 4 ≤ k
-      → Groups ed s (vectorsIn 4 bytes) (record { a = a; b = b; c = c; d = d; next = next })
-  done bytes s a b c d next k inv l =
-      let e : k ≡ 4 = omega arith in
+  -- four steps, each from where the one before ended
+  pub four : (bytes : List ℕ) (at : ℕ) (s : Sender) (a b c d : Step)
+      → Steps ed s (take 10 (drop at bytes)) a → Steps ed (a .next) (take 10 (drop (at + 10) bytes)) b
+      → Steps ed (b .next) (take 10 (drop (at + 20) bytes)) c → Steps ed (c .next) (take 10 (drop (at + 30) bytes)) d
+      → Groups ed s (vectorsIn 4 (drop at bytes)) (record { a = a .block; b = b .block; c = c .block; d = d .block; next = d .next })
+  four bytes at s a b c d p q r t =
       record {
-        sends = subst (λ (n : ℕ). Sends ed s (vectorsIn n bytes) (drop (4 - n) (wordsOf a b c d)) next) e (inv .sends);
-        headers = inv .headers;
+        sends =
+            subst (λ (vs : List (List ℕ)). Sends ed s vs (wordsOf (a .block) (b .block) (c .block) (d .block)) (d .next)) (four-vectors bytes at)
+            (sends-join ed s (a .next) (d .next) _ _ _ _ (p .sends) (sends-join ed (a .next) (b .next) (d .next) _ _ _ _ (q .sends) (sends-join ed (b .next) (c .next) (d .next) _ _ _ _ (r .sends) (t .sends))));
+        headers = record { first = p .header; second = q .header; third = r .header; fourth = t .header };
       }
+
+-- ---- the control bytes of four vectors
+
+-- what holds of the two control bytes of each
+pub record Pairs (P : ℕ → ℕ → Type 0) (bytes : List ℕ) (at : ℕ) : Type 0 where
+  pub first : P (getD bytes at 0) (getD bytes (at + 5) 0)
+  pub second : P (getD bytes (at + 10) 0) (getD bytes (at + 10 + 5) 0)
+  pub third : P (getD bytes (at + 20) 0) (getD bytes (at + 20 + 5) 0)
+  pub fourth : P (getD bytes (at + 30) 0) (getD bytes (at + 30 + 5) 0)
+
+module _ (bytes : List ℕ) (at : ℕ) where
+  paired : (P : ℕ → ℕ → Type 0) → P (getD bytes at 0) (getD bytes (at + 5) 0) → P (getD bytes (at + 10) 0) (getD bytes (at + 15) 0)
+      → P (getD bytes (at + 20) 0) (getD bytes (at + 25) 0) → P (getD bytes (at + 30) 0) (getD bytes (at + 35) 0) → Pairs P bytes at
+  paired P p q r t =
+      let b : at + 15 ≡ at + 10 + 5 = omega arith in
+      let c : at + 25 ≡ at + 20 + 5 = omega arith in
+      let d : at + 35 ≡ at + 30 + 5 = omega arith in
+      record {
+        first = p;
+        second = subst (λ (i : ℕ). P (getD bytes (at + 10) 0) (getD bytes i 0)) b q;
+        third = subst (λ (i : ℕ). P (getD bytes (at + 20) 0) (getD bytes i 0)) c r;
+        fourth = subst (λ (i : ℕ). P (getD bytes (at + 30) 0) (getD bytes i 0)) d t;
+      }
+
+  -- all data
+  pub none-control : controlsAt bytes at ≡ 0 → Pairs (λ x y. x + y ≡ 0) bytes at
+  none-control e = paired (λ x y. x + y ≡ 0) (omega arith) (omega arith) (omega arith) (omega arith)
+
+  module _ (low : Low bytes) (z : at % 5 ≡ 0) where
+    low-word : (j : ℕ) → getD bytes (at + 5 * j) 0 ≤ 15
+    low-word j =
+        let e : 5 * (at / 5 + j) ≡ at + 5 * j = omega arith in
+        subst (λ (i : ℕ). getD bytes i 0 ≤ 15) e (low (at / 5 + j))
+
+    pub low-words : (getD bytes at 0 ≤ 15) × (getD bytes (at + 5) 0 ≤ 15) × (getD bytes (at + 10) 0 ≤ 15) × (getD bytes (at + 15) 0 ≤ 15)
+        × (getD bytes (at + 20) 0 ≤ 15) × (getD bytes (at + 25) 0 ≤ 15) × (getD bytes (at + 30) 0 ≤ 15) × (getD bytes (at + 35) 0 ≤ 15)
+    low-words =
+        (subst (λ (i : ℕ). getD bytes i 0 ≤ 15) (add-zero at) (low-word 0), low-word 1, low-word 2, low-word 3, low-word 4, low-word 5, low-word 6, low-word 7)
+
+    pub low-pairs : Pairs (λ x y. (x ≤ 15) × (y ≤ 15)) bytes at
+    low-pairs =
+        let w = low-words in
+        paired (λ x y. (x ≤ 15) × (y ≤ 15)) (w .0, w .1) (w .2, w .3) (w .4, w .5) (w .6, w .7)
+
+    -- all control characters
+    pub all-control : controlsAt bytes at ≡ 120 → Pairs (λ x y. (x ≡ 15) × (y ≡ 15)) bytes at
+    all-control e =
+        let w = low-words in
+        paired (λ x y. (x ≡ 15) × (y ≡ 15))
+        (omega (arith, w), omega (arith, w)) (omega (arith, w), omega (arith, w)) (omega (arith, w), omega (arith, w)) (omega (arith, w), omega (arith, w))
+
+-- ---- a vector of data alone, and eight idles
+
+module _ (bytes : List ℕ) (at : ℕ) (b : (n : ℕ) → getD bytes n 0 < 256) (l : at + 10 ≤ length bytes) where
+  lanes-lt : (p : ℕ) → lanesAt bytes p < 2 ^ 32
+  lanes-lt p = omega (arith, b p, b (p + 1), b (p + 2), b (p + 3))
+
+  pub data-codes : (ed : Edition) (z : ℕ) → z ≡ octetsAt bytes at → getD bytes at 0 + getD bytes (at + 5) 0 ≡ 0
+      → Codes ed bytes at (record { kind = D; header = 2; payload = z })
+  data-codes ed z e n =
+      let m : getD bytes at 0 + 16 * getD bytes (at + 5) 0 ≡ 0 = omega arith in
+      ap (λ (x : ℕ). record { kind = D; header = 2; payload = x }) e
+      ∙ data-coded ed (getD bytes at 0) (lanesAt bytes (at + 1)) (getD bytes (at + 5) 0) (lanesAt bytes (at + 6)) (lanes-lt (at + 1)) (lanes-lt (at + 6)) m
+      ∙ ap (λ (v : List ℕ). codedOf (carrier ed v)) (vector-read bytes at (lanesAt bytes (at + 1)) (lanesAt bytes (at + 6)) b l refl refl)
+
+  pub idle-codes : (ed : Edition) (z : ℕ) → z ≡ octetsAt bytes at → getD bytes at 0 ≡ 15 → getD bytes (at + 5) 0 ≡ 15 → z ≡ 0x0707070707070707
+      → Codes ed bytes at idleCoded
+  idle-codes ed z e m n i =
+      idle-coded ed (getD bytes at 0) (lanesAt bytes (at + 1)) (getD bytes (at + 5) 0) (lanesAt bytes (at + 6)) (omega arith) (omega arith) (lanes-lt (at + 1)) (omega arith) (sym e ∙ i)
+      ∙ ap (λ (v : List ℕ). codedOf (carrier ed v)) (vector-read bytes at (lanesAt bytes (at + 1)) (lanesAt bytes (at + 6)) b l refl refl)

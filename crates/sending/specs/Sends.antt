@@ -2,11 +2,16 @@
 use Prim.Native.Nat.{ℕ, _+_, _*_, _/_, _<_, _≤_}
 use mathlib.Core.Path.{_≡_}
 use mathlib.Core.List.{List, [], _∷_, _++_}
-use lib.ListN.{length, getD, drop}
+use lib.ListN.{length, getD, take, drop}
 use Rattle.bits.specs.Bits.{streamBit, cut}
 use Rattle.line.specs.Word.{word}
 use Rattle.line.specs.declared.Block.{Block}
 use Rattle.block.specs.declared.Edition.{Edition}
+use Rattle.block.specs.declared.Kind.the-variants.{C}
+use Rattle.block.specs.Block.{carrier}
+use Rattle.encoding.specs.declared.Coded.{Coded}
+use Rattle.encoding.specs.Answer.{codedOf}
+use Rattle.encoding.specs.Parts.{lanesAt}
 use Rattle.diagrams.specs.declared.State.{State}
 use Rattle.diagrams.specs.declared.State.the-variants.{Init, Control, Data, Terminate, Error, LowPower}
 use Rattle.sending.specs.Send.{vectorsOf, errorBlock, stateAfter, replaced, sentBlocks, lineWords, historyOver}
@@ -26,6 +31,29 @@ chosen Control b = b
 chosen Data b = b
 chosen Terminate b = b
 chosen LowPower b = b
+
+-- The vector at a place of the vector bytes: its eight octets, character 0 lowest, and that it is encoded as this.
+abbrev pub octetsAt : List ℕ → ℕ → ℕ
+octetsAt bytes at = lanesAt bytes (at + 1) + lanesAt bytes (at + 6) * 4294967296
+
+abbrev pub Codes : Edition → List ℕ → ℕ → Coded → Type 0
+Codes ed bytes at e = e ≡ codedOf (carrier ed (take 10 (drop at bytes)))
+
+-- eight idles, and four vectors that are idles
+abbrev pub idleCoded : Coded
+idleCoded = record { kind = C; header = 1; payload = 0x1e }
+
+pub record Idles (ed : Edition) (bytes : List ℕ) (at : ℕ) : Type 0 where
+  pub first : Codes ed bytes at idleCoded
+  pub second : Codes ed bytes (at + 10) idleCoded
+  pub third : Codes ed bytes (at + 20) idleCoded
+  pub fourth : Codes ed bytes (at + 30) idleCoded
+
+-- the control bytes of four vectors, added up
+abbrev pub controlsAt : List ℕ → ℕ → ℕ
+controlsAt bytes at =
+    getD bytes at 0 + getD bytes (at + 5) 0 + getD bytes (at + 10) 0 + getD bytes (at + 15) 0
+    + getD bytes (at + 20) 0 + getD bytes (at + 25) 0 + getD bytes (at + 30) 0 + getD bytes (at + 35) 0
 
 -- From where s stands, these vectors go on the line as these words, and sending then stands at r.
 pub record Sends (ed : Edition) (s : Sender) (vectors : List (List ℕ)) (words : List ℕ) (r : Sender) : Type 0 where

@@ -1,5 +1,6 @@
 // Sending a list of vectors: document 01, 'Diagrams' (Transmit), 'Scrambler' and 'Vectors, words and line bits'.
 use block::Edition;
+use block::Kind;
 use diagrams::State;
 use diagrams::diagram_step;
 use diagrams::state_number;
@@ -12,18 +13,19 @@ use refusals::Refusal;
 use scrambler::mirrored;
 use scrambler::scramble;
 use tables::edition_of;
-use tables::encode_tables;
 ghost use mathlib.Core.Path.{_≡_};
+ghost use mathlib.Core.Bool.{true};
 ghost use mathlib.Core.List.{List, _++_};
 ghost use Prim.Native.Nat.{ℕ, _+_, _*_, _/_, _%_, _^_, _<_, _≤_};
-ghost use lib.ListN.{length, getD, take, drop};
-ghost use Rattle.block.specs.Block.{carrier, highControl};
+ghost use lib.ListN.{length, getD, drop};
+ghost use Rattle.block.specs.Block.{carrier};
 ghost use Rattle.encoding.specs.Answer.{codedOf};
 ghost use Rattle.line.specs.Word.{word};
-ghost use Rattle.tables.specs.Tables.{editionIn, LentToEncode};
 ghost use Rattle.sending.specs.Send.{replacedIn, vectorsIn, sentLine};
 ghost use Rattle.sending.specs.Answer.{sent, sentFor, Sends};
-ghost use Rattle.sending.specs.Sends.{Low, chosen, Steps, Groups, Fills};
+ghost use Rattle.sending.specs.Sends.{Low, chosen, octetsAt, Codes, idleCoded, Idles, controlsAt, Steps, Groups, Fills};
+
+mod controls;
 
 // What sending returns: its end state, the number of its end diagram state, and how many vectors it replaced.
 pub struct Sending {
@@ -61,14 +63,59 @@ struct Group {
     next: Sender,
 }
 
+// The eight octets of the vector at a place of the vector bytes, character 0 lowest.
+fn octets_at(bytes: &[u8], at: usize) -> u64
+    requires { ⌜ at + 10 ≤ length (now bytes) ⌝ }
+    ensures { λ r. ⌜ r ≡ octetsAt (now (bytes .entry)) at ⌝ }
+{
+    lanes_at(bytes, at + 1) as u64 + lanes_at(bytes, at + 6) as u64 * 4294967296
+}
+
 // The vector at a place of the vector bytes, encoded.
-fn vector_at(t: &[u16; 2208], bytes: &[u8], at: usize) -> Coded
-    requires { ⌜ LentToEncode (now t) × (at + 10 ≤ length (now bytes)) × (getD (now bytes) at 0 ≤ 15) × (getD (now bytes) (at + 5) 0 ≤ 15) ⌝ }
-    ensures { λ r. ⌜ r ≡ codedOf (carrier (editionIn (now (t .entry))) (take 10 (drop at (now (bytes .entry))))) ⌝ }
+fn vector_at(edition: Edition, bytes: &[u8], at: usize) -> Coded
+    requires { ⌜ (at + 10 ≤ length (now bytes)) × (getD (now bytes) at 0 ≤ 15) × (getD (now bytes) (at + 5) 0 ≤ 15) ⌝ }
+    ensures { λ r. ⌜ Codes edition (now (bytes .entry)) at r ⌝ }
 {
     let c0 = bytes[at];
     let c1 = bytes[at + 5];
-    encode(t, c0, lanes_at(bytes, at + 1), c1, lanes_at(bytes, at + 6))
+    encode(
+        edition,
+        c0,
+        lanes_at(bytes, at + 1),
+        c1,
+        lanes_at(bytes, at + 6),
+    )
+}
+
+// The same of one without control characters.
+fn data_at(bytes: &[u8], at: usize) -> Coded
+    requires { ⌜ (at + 10 ≤ length (now bytes)) × (getD (now bytes) at 0 + getD (now bytes) (at + 5) 0 ≡ 0) ⌝ }
+    ensures { λ r. ⌜ ((ed : Edition) → Codes ed (now (bytes .entry)) at r) ⌝ }
+{
+    Coded {
+        kind: Kind::D,
+        header: 2,
+        payload: octets_at(bytes, at),
+    }
+}
+
+// Eight idles, encoded.
+fn idles() -> Coded
+    ensures { λ r. ⌜ r ≡ idleCoded ⌝ }
+{
+    Coded {
+        kind: Kind::C,
+        header: 1,
+        payload: 0x1e,
+    }
+}
+
+// Whether a vector of control characters alone is eight idles.
+fn idle_at(bytes: &[u8], at: usize) -> bool
+    requires { ⌜ (at + 10 ≤ length (now bytes)) × (getD (now bytes) at 0 ≡ 15) × (getD (now bytes) (at + 5) 0 ≡ 15) ⌝ }
+    ensures { λ r. ⌜ (r ≡ true → (ed : Edition) → Codes ed (now (bytes .entry)) at idleCoded) ⌝ }
+{
+    octets_at(bytes, at) == 0x0707_0707_0707_0707
 }
 
 // "In state E the sent block is type 1e with eight codes 1e, else the vector's own."
@@ -106,6 +153,7 @@ fn replaced_in(s: State) -> u64
 fn send_one(e: Coded, s: Sender) -> Step
     requires { ⌜ (s .history < 2 ^ 58) × (s .replaced < 2 ^ 63) ⌝ }
     ensures { λ r. ⌜ ((ed : Edition) (v : List ℕ) → e ≡ codedOf (carrier ed v) → Steps ed s v r) ⌝ }
+    ensures { λ r. ⌜ (r .next .history < 2 ^ 58) × (r .next .replaced ≤ s .replaced + 1) ⌝ }
 {
     let before = s.diagram;
     let kind = e.kind;
@@ -130,50 +178,141 @@ fn send_one(e: Coded, s: Sender) -> Step
     }
 }
 
-// Four vectors sent, from a place of the vector bytes on. The blocks move up with each vector, so that one call sends all four.
-fn send_four(t: &[u16; 2208], bytes: &[u8], at: usize, s: Sender) -> Group
-    requires { ⌜ LentToEncode (now t) × (at + 40 ≤ length (now bytes)) × (s .history < 2 ^ 58) × (s .replaced ≤ 1000000) × (at % 5 ≡ 0) × Low (now bytes) ⌝ }
-    ensures { λ r. ⌜ Groups (editionIn (now (t .entry))) s (vectorsIn 4 (drop at (now (bytes .entry)))) r ⌝ }
+// Four vectors sent, from a place of the vector bytes on.
+fn send_each(edition: Edition, bytes: &[u8], at: usize, s: Sender) -> Group
+    requires { ⌜ (at + 40 ≤ length (now bytes)) × (s .history < 2 ^ 58) × (s .replaced ≤ 1000000) × (at % 5 ≡ 0) × Low (now bytes) ⌝ }
+    ensures { λ r. ⌜ Groups edition s (vectorsIn 4 (drop at (now (bytes .entry)))) r ⌝ }
 {
-    let none = Block {
-        header: 0,
-        payload: 0,
-    };
-    let mut a = none;
-    let mut b = none;
-    let mut c = none;
-    let mut d = none;
-    let mut next = s;
-    let mut k: usize = 0;
-    while k < 4 {
-        let e = vector_at(t, bytes, at + 10 * k);
-        let step = send_one(e, next);
-        a = b;
-        b = c;
-        c = d;
-        d = step.block;
-        next = step.next;
-        k = k + 1;
-    }
+    let first = send_one(vector_at(edition, bytes, at), s);
+    let a = first.block;
+    let after_a = first.next;
+    let second = send_one(vector_at(edition, bytes, at + 10), after_a);
+    let b = second.block;
+    let after_b = second.next;
+    let third = send_one(vector_at(edition, bytes, at + 20), after_b);
+    let c = third.block;
+    let after_c = third.next;
+    let fourth = send_one(vector_at(edition, bytes, at + 30), after_c);
+    let d = fourth.block;
+    let after_d = fourth.next;
     Group {
         a: a,
         b: b,
         c: c,
         d: d,
-        next: next,
+        next: after_d,
     }
 }
 
+// The same of four without control characters. What the diagram does is then known but for the first, so this is short.
+fn send_data(bytes: &[u8], at: usize, s: Sender) -> Group
+    requires { ⌜ (at + 40 ≤ length (now bytes)) × (s .history < 2 ^ 58) × (s .replaced ≤ 1000000) × (controlsAt (now bytes) at ≡ 0) ⌝ }
+    ensures { λ r. ⌜ ((ed : Edition) → Groups ed s (vectorsIn 4 (drop at (now (bytes .entry)))) r) ⌝ }
+{
+    let first = send_one(data_at(bytes, at), s);
+    let a = first.block;
+    let after_a = first.next;
+    let second = send_one(data_at(bytes, at + 10), after_a);
+    let b = second.block;
+    let after_b = second.next;
+    let third = send_one(data_at(bytes, at + 20), after_b);
+    let c = third.block;
+    let after_c = third.next;
+    let fourth = send_one(data_at(bytes, at + 30), after_c);
+    let d = fourth.block;
+    let after_d = fourth.next;
+    Group {
+        a: a,
+        b: b,
+        c: c,
+        d: d,
+        next: after_d,
+    }
+}
+
+// The same of four that are idles.
+fn send_idles(s: Sender) -> Group
+    requires { ⌜ (s .history < 2 ^ 58) × (s .replaced ≤ 1000000) ⌝ }
+    ensures { λ r. ⌜ ((ed : Edition) (bytes : List ℕ) (at : ℕ) → Idles ed bytes at → Groups ed s (vectorsIn 4 (drop at bytes)) r) ⌝ }
+{
+    let first = send_one(idles(), s);
+    let a = first.block;
+    let after_a = first.next;
+    let second = send_one(idles(), after_a);
+    let b = second.block;
+    let after_b = second.next;
+    let third = send_one(idles(), after_b);
+    let c = third.block;
+    let after_c = third.next;
+    let fourth = send_one(idles(), after_c);
+    let d = fourth.block;
+    let after_d = fourth.next;
+    Group {
+        a: a,
+        b: b,
+        c: c,
+        d: d,
+        next: after_d,
+    }
+}
+
+// Whether four vectors of control characters alone are idles.
+fn all_idle(bytes: &[u8], at: usize) -> bool
+    requires { ⌜ (at + 40 ≤ length (now bytes)) × (at % 5 ≡ 0) × Low (now bytes) × (controlsAt (now bytes) at ≡ 120) ⌝ }
+    ensures { λ r. ⌜ (r ≡ true → (ed : Edition) → Idles ed (now (bytes .entry)) at) ⌝ }
+{
+    if idle_at(bytes, at) {
+        if idle_at(bytes, at + 10) {
+            if idle_at(bytes, at + 20) {
+                return idle_at(bytes, at + 30);
+            }
+        }
+    }
+    false
+}
+
+// The control bytes of four vectors, added up: 0 where all characters are data, 120 where none is.
+fn controls_at(bytes: &[u8], at: usize) -> u8
+    requires { ⌜ (at + 40 ≤ length (now bytes)) × (at % 5 ≡ 0) × Low (now bytes) ⌝ }
+    ensures { λ r. ⌜ r ≡ controlsAt (now (bytes .entry)) at ⌝ }
+{
+    bytes[at]
+        + bytes[at + 5]
+        + bytes[at + 10]
+        + bytes[at + 15]
+        + bytes[at + 20]
+        + bytes[at + 25]
+        + bytes[at + 30]
+        + bytes[at + 35]
+}
+
+// Four vectors sent: four of data and four of idles at once.
+fn send_four(edition: Edition, bytes: &[u8], at: usize, s: Sender) -> Group
+    requires { ⌜ (at + 40 ≤ length (now bytes)) × (s .history < 2 ^ 58) × (s .replaced ≤ 1000000) × (at % 5 ≡ 0) × Low (now bytes) ⌝ }
+    ensures { λ r. ⌜ Groups edition s (vectorsIn 4 (drop at (now (bytes .entry)))) r ⌝ }
+{
+    let controls = controls_at(bytes, at);
+    if controls == 0 {
+        return send_data(bytes, at, s);
+    }
+    if controls == 120 {
+        if all_idle(bytes, at) {
+            return send_idles(s);
+        }
+    }
+    send_each(edition, bytes, at, s)
+}
+
 // All groups sent, each as 33 bytes of the room.
-fn send_groups(t: &[u16; 2208], bytes: &[u8], s: Sender, room: &mut [u8]) -> Sender
-    requires { ⌜ LentToEncode (now t) × (length (now bytes) ≤ 1000000) × (length (now bytes) % 40 ≡ 0) × (33 * (length (now bytes) / 40) ≤ length (now room)) × (s .history < 2 ^ 58) × (s .replaced ≡ 0) × Low (now bytes) ⌝ }
-    ensures { λ r. ⌜ Fills (editionIn (now (t .entry))) s (now (bytes .entry)) (now (room .entry)) (now (room .exit)) r ⌝ }
+fn send_groups(edition: Edition, bytes: &[u8], s: Sender, room: &mut [u8]) -> Sender
+    requires { ⌜ (length (now bytes) ≤ 1000000) × (length (now bytes) % 40 ≡ 0) × (33 * (length (now bytes) / 40) ≤ length (now room)) × (s .history < 2 ^ 58) × (s .replaced ≡ 0) × Low (now bytes) ⌝ }
+    ensures { λ r. ⌜ Fills edition s (now (bytes .entry)) (now (room .entry)) (now (room .exit)) r ⌝ }
 {
     let groups = bytes.len() / 40;
     let mut next = s;
     let mut g: usize = 0;
     while g < groups {
-        let four = send_four(t, bytes, 40 * g, next);
+        let four = send_four(edition, bytes, 40 * g, next);
         let a = four.a;
         let b = four.b;
         let c = four.c;
@@ -196,29 +335,13 @@ fn send_all(edition: Edition, vectors: &[u8], start: u64, line: &mut [u8]) -> Se
         history: mirrored(start),
         replaced: 0,
     };
-    let tables = encode_tables(edition);
-    let end = send_groups(&tables, vectors, first, line);
+    let end = send_groups(edition, vectors, first, line);
     let diagram = end.diagram;
     Sending {
         state: mirrored(end.history),
         diagram: state_number(diagram),
         replaced: end.replaced,
     }
-}
-
-// The byte offset of the first control byte above 15; where there is none, the end of the words.
-fn high_control(bytes: &[u8]) -> usize
-    ensures { λ r. ⌜ r ≡ highControl (now (bytes .entry)) ⌝ }
-{
-    let n = bytes.len();
-    let mut at: usize = 0;
-    while 5 <= n - at {
-        if 15 < bytes[at] {
-            return at;
-        }
-        at = at + 5;
-    }
-    at
 }
 
 // Sends a list of vectors in an edition (0 old, 1 new), from a start state below 2^58. Its line goes to the start of the lent room; a refusal
@@ -242,7 +365,7 @@ pub fn send(edition: u64, vectors: &[u8], start: u64, line: &mut [u8]) -> Sent
     if line.len() < 33 * (n / 40) {
         return Sent::Refused(Refusal::Room, 0);
     }
-    let high = high_control(vectors);
+    let high = controls::first_high(vectors);
     if high < n {
         return Sent::Refused(Refusal::ControlByte, high);
     }

@@ -1,4 +1,3 @@
 pub mod Low
-pub mod Entries
 pub mod Types
 pub mod Unique

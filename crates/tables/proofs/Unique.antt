@@ -7,13 +7,10 @@ use Rattle.block.specs.declared.Edition.{Edition}
 use Rattle.block.specs.declared.Kind.{Kind}
 use Rattle.block.specs.Block.{editionOf, twoWords, kindFor}
 use Rattle.block.specs.Rows.{row}
-use Rattle.tables.specs.Tables.{types, encodeTables}
+use Rattle.tables.specs.Tables.{types}
 
 pub type-row-unique : (y r r′ : ℕ) → r ≡ getD types y 0 → r′ ≡ getD types y 0 → r ≡ r′
 type-row-unique y r r′ p q = p ∙ sym q
-
-pub encode-tables-unique : (ed : Edition) (r r′ : List ℕ) → r ≡ encodeTables ed → r′ ≡ encodeTables ed → r ≡ r′
-encode-tables-unique ed r r′ p q = p ∙ sym q
 
 pub kind-of-unique : (r c0 d0 c1 d1 : ℕ) (k k′ : Kind)
     → k ≡ kindFor (row r) (twoWords c0 d0 c1 d1) → k′ ≡ kindFor (row r) (twoWords c0 d0 c1 d1) → k ≡ k′

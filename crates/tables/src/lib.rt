@@ -1,35 +1,12 @@
-// The types of blocks, their kinds, and the constant tables for encoding. A constant array is made anew wherever it is named, so the
-// outermost function takes the tables once and lends them to all below.
+// The types of blocks, their kinds, and the editions.
 ghost use mathlib.Core.Path.{_≡_};
-ghost use mathlib.Core.List.{List};
 ghost use Prim.Native.Nat.{_<_};
 ghost use lib.ListN.{getD};
 ghost use Rattle.block.specs.Block.{editionOf, twoWords, lowPower, kindFor};
 ghost use Rattle.block.specs.Rows.{row};
-ghost use Rattle.tables.specs.Tables.{types, typeWord, encodeTables};
+ghost use Rattle.tables.specs.Tables.{types, typeWord};
 use block::Edition;
 use block::Kind;
-
-mod data;
-
-// Where each table begins: codes come first. For field i of row r, at 8 * r + i: where its octet stands among eight, where its codes begin,
-// and its place.
-pub const LANE: usize = 1536;
-
-pub const FROM: usize = 1664;
-
-pub const PLACE: usize = 1792;
-
-// For row r: its type.
-pub const TYPE: usize = 1920;
-
-// For two control bytes, at c0 + 16 * c1: the first row that has them. For row r: the next with its control bytes.
-pub const FIRST: usize = 1936;
-
-pub const NEXT: usize = 2192;
-
-// The code of octet 06: below 256, and so valid, in the newer edition alone.
-pub const LOW_POWER: usize = 262;
 
 // The kind of each row, two bits for each: D, C, S and T are 0 to 3.
 const KINDS: u32 = 0xffff6694;
@@ -74,21 +51,6 @@ pub fn type_row(y: u64) -> usize
     ensures { λ r. ⌜ r ≡ getD types y 0 ⌝ }
 {
     ((type_word(y / 16) >> (4 * (y % 16))) % 16) as usize
-}
-
-// The tables for encoding, one after the other. The newer edition has two entries more.
-pub fn encode_tables(edition: Edition) -> [u16; 2208]
-    ensures { λ r. ⌜ r ≡ encodeTables edition ⌝ }
-{
-    let mut t = data::ENCODE;
-    match edition {
-        Edition::Old => {}
-        Edition::New => {
-            t[262] = 6; // the code of octet 06
-            t[518] = 6; // in type 1e too
-        }
-    }
-    t
 }
 
 // The kind of a row.

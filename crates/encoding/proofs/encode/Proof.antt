@@ -1,16 +1,18 @@
--- `encoding::encode` meets its contract: data, eight idles, eight low power idles, or the rows.
-use mathlib.Core.Path.{_∙_, ap}
+-- `encoding::encode` meets its contract: the quick way, eight low power idles, or the rows.
+use mathlib.Core.Path.{_∙_, ap, sym}
 use mathlib.Core.List.{List}
-use Prim.Native.Nat.{ℕ}
+use Prim.Native.Nat.{ℕ, _+_, _*_}
 use native.Mathlib.Omega.{arith}
-use borrow.Author.Needs.{needs}
+use Rattle.block.specs.declared.Edition.{Edition}
 use Rattle.block.specs.Block.{carrier}
-use Rattle.tables.specs.Tables.{editionIn}
-use Rattle.tables.proofs.Entries.{newer}
 use Rattle.encoding.specs.Answer.{codedOf}
-use Rattle.encoding.proofs.Answers.{spread-words, data-coded, idle-coded, low-coded}
+use Rattle.encoding.specs.Parts.{spread}
+use Rattle.encoding.proofs.Answers.{spread-words, low-coded}
+use borrow.Author.Needs.{needs}
 use Rattle.encoding.proofs.encode.Statement.{statement}
 use Rattle.encoding.proofs.encode.Tie as tie
+use Rattle.encoding.proofs.encode_rows.Reads as encode-rows-reads
+use Rattle.encoding.proofs.quick.Reads as quick-reads
 
 mul-lanes : tie.Need-mul-lanes
 mul-lanes c = search needs
@@ -18,31 +20,53 @@ mul-lanes c = search needs
 add-lanes : tie.Need-add-lanes
 add-lanes c = search needs
 
-mul-m : tie.Need-mul-m
-mul-m c = search needs
-
-add-m : tie.Need-add-m
-add-m c = search needs
+quick-requires : tie.Need-quick-requires
+quick-requires c κs = search needs
 
 returns : tie.Need-returns
-returns c = data-coded (editionIn (c .before .args .t .now)) (c .before .args .c0) (c .before .args .d0) (c .before .args .c1) (c .before .args .d1) (omega arith) (omega arith) (c .if1 .taken)
+returns c = c .before .quick .ensures .0 (c .if1 .taken) (c .before .before .args .edition) ∙ ap (λ (v : List ℕ). codedOf (carrier (c .before .before .args .edition) v)) (spread-words (c .before .before .args .c0) (c .before .before .args .d0) (c .before .before .args .c1) (c .before .before .args .d1) (omega arith))
 
-returns-2 : tie.Need-returns-2
-returns-2 c = idle-coded (editionIn (c .before .before .before .args .t .now)) (c .before .before .before .args .c0) (c .before .before .before .args .d0) (c .before .before .before .args .c1) (c .before .before .before .args .d1) (c .before .before .before .pre .0) (c .before .before .before .pre .1) (omega arith) (c .before .if2 .taken) (c .if3 .taken)
-
-element-copy-out-if5 : tie.Need-element-copy-out-if5
-element-copy-out-if5 c = search needs
-
-returns-3 : tie.Need-returns-3
-returns-3 c = low-coded (editionIn (c .before .before .before .before .before .before .args .t .now)) (newer (c .before .before .before .before .before .before .args .t .now) (c .if5 .taken)) (c .before .before .before .before .before .before .args .c0) (c .before .before .before .before .before .before .args .d0) (c .before .before .before .before .before .before .args .c1) (c .before .before .before .before .before .before .args .d1) (c .before .before .before .before .before .before .pre .0) (c .before .before .before .before .before .before .pre .1) (omega arith) (c .before .before .before .before .if2 .taken) (c .before .before .if4 .taken)
+enum-told : tie.Need-enum-told
+enum-told c = search needs
 
 encode-rows-requires : tie.Need-encode-rows-requires
-encode-rows-requires c κs = search needs
+encode-rows-requires c κs = (c .before .before .before .before .pre .0, c .before .before .before .before .pre .1, c .before .before .before .quick .ensures .1 (c .before .before .if1 .left))
+
+enum-told-2 : tie.Need-enum-told-2
+enum-told-2 c = search needs
+
+mul-if3 : tie.Need-mul-if3
+mul-if3 c = search needs
+
+add-if3 : tie.Need-add-if3
+add-if3 c = search needs
+
+returns-2 : tie.Need-returns-2
+returns-2 c = low-coded (c .before .before .before .before .before .before .args .edition) (c .before .before .enum-told2 .given .1) (c .before .before .before .before .before .before .args .c0) (c .before .before .before .before .before .before .args .d0) (c .before .before .before .before .before .before .args .c1) (c .before .before .before .before .before .before .args .d1) (c .before .before .before .before .before .before .pre .0) (c .before .before .before .before .before .before .pre .1) (omega arith) (c .if3 .taken) (c .before .if2 .taken)
+
+encode-rows-requires-2 : tie.Need-encode-rows-requires-2
+encode-rows-requires-2 c κs = (c .before .before .before .before .before .pre .0, c .before .before .before .before .before .pre .1, c .before .before .before .before .quick .ensures .1 (c .before .before .before .if1 .left))
+
+returns-3 : tie.Need-returns-3
+returns-3 c = c .encode-rows .ensures ∙ ap (λ (ed : Edition). codedOf (carrier ed (spread (c .before .before .before .before .before .args .c0) (c .before .before .before .before .before .args .c1) (c .before .before .before .before .before .args .d0 + c .before .before .before .before .before .args .d1 * 4294967296)))) (sym (c .before .enum-told .given .1)) ∙ ap (λ (v : List ℕ). codedOf (carrier (c .before .before .before .before .before .args .edition) v)) (spread-words (c .before .before .before .before .before .args .c0) (c .before .before .before .before .before .args .d0) (c .before .before .before .before .before .args .c1) (c .before .before .before .before .before .args .d1) (omega arith))
 
 returns-4 : tie.Need-returns-4
-returns-4 c = c .encode-rows .ensures ∙ ap (λ (v : List ℕ). codedOf (carrier (editionIn (c .before .before .before .args .t .now)) v)) (spread-words (c .before .before .before .args .c0) (c .before .before .before .args .d0) (c .before .before .before .args .c1) (c .before .before .before .args .d1) (omega arith))
+returns-4 c = c .encode-rows2 .ensures ∙ ap (λ (ed : Edition). codedOf (carrier ed (spread (c .before .before .before .before .before .before .args .c0) (c .before .before .before .before .before .before .args .c1) (c .before .before .before .before .before .before .args .d0 + c .before .before .before .before .before .before .args .d1 * 4294967296)))) (sym (c .before .before .enum-told2 .given .1)) ∙ ap (λ (v : List ℕ). codedOf (carrier (c .before .before .before .before .before .before .args .edition) v)) (spread-words (c .before .before .before .before .before .before .args .c0) (c .before .before .before .before .before .before .args .d0) (c .before .before .before .before .before .before .args .c1) (c .before .before .before .before .before .before .args .d1) (omega arith))
 
 pub encode-spec : {M : Type 1} → statement M
 encode-spec =
     tie.close
-    (tie.spec mul-lanes add-lanes mul-m add-m returns returns-2 element-copy-out-if5 returns-3 encode-rows-requires returns-4)
+    (tie.spec
+    mul-lanes
+    add-lanes
+    quick-requires
+    returns
+    enum-told
+    encode-rows-requires
+    enum-told-2
+    mul-if3
+    add-if3
+    returns-2
+    encode-rows-requires-2
+    returns-3
+    returns-4)

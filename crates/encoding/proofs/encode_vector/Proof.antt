@@ -1,7 +1,6 @@
 -- `encoding::encode_vector` meets its contract: the two refusals, then what `encode` answers.
 use native.Mathlib.Omega.{arith}
 use borrow.Author.Needs.{needs}
-use Rattle.tables.proofs.Entries.{lent-to-encode, lends-to-encode}
 use Rattle.encoding.proofs.Answers.{wrong-length, high-first, high-second, good-answer}
 use Rattle.encoding.proofs.encode_vector.Statement.{statement}
 use Rattle.encoding.proofs.encode_vector.Tie as tie
@@ -21,9 +20,6 @@ shared-slice-read-c1 c = search needs
 returns-3 : tie.Need-returns-3
 returns-3 c = high-second (c .before .before .before .before .before .before .args .edition) (c .before .before .before .before .before .before .args .v .now) (c .before .before .before .before .if1 .left) (c .before .before .if2 .left) (c .if3 .taken)
 
-encode-tables-requires : tie.Need-encode-tables-requires
-encode-tables-requires c κs = search needs
-
 lanes-at-requires : tie.Need-lanes-at-requires
 lanes-at-requires c κs = search needs
 
@@ -31,13 +27,13 @@ lanes-at-requires-2 : tie.Need-lanes-at-requires-2
 lanes-at-requires-2 c κs = search needs
 
 encode-requires : tie.Need-encode-requires
-encode-requires c κs = (c .before .before .before .before .before .before .if2 .left, c .before .before .before .before .if3 .left, lends-to-encode (c .before .before .before .before .before .before .before .before .before .before .args .edition) _ (c .before .before .before .encode-tables .ensures))
+encode-requires c κs = (c .before .before .before .before .if2 .left, c .before .before .if3 .left)
 
 answer-requires : tie.Need-answer-requires
 answer-requires c κs = search needs
 
 returns-4 : tie.Need-returns-4
-returns-4 c = good-answer (c .before .before .before .before .before .before .before .before .before .before .before .before .args .edition) (c .before .before .before .before .before .before .before .before .before .before .before .before .args .v .now) (c .before .before .before .before .before .before .before .before .before .before .if1 .left) _ _ _ _ (λ n. omega (arith, c .before .before .before .before .before .before .before .before .before .shared-slice-known2 .given n)) (c .before .before .before .before .before .before .before .before .if2 .left) (c .before .before .before .before .before .before .if3 .left) (c .before .before .before .before .lanes-at .ensures) (c .before .before .before .lanes-at2 .ensures) _ (lent-to-encode (c .before .before .before .before .before .before .before .before .before .before .before .before .args .edition) _ (c .before .before .before .before .before .encode-tables .ensures)) (c .before .encode .ensures) (c .answer .ensures)
+returns-4 c = good-answer (c .before .before .before .before .before .before .before .before .before .before .args .edition) (c .before .before .before .before .before .before .before .before .before .before .args .v .now) (c .before .before .before .before .before .before .before .before .if1 .left) _ _ _ _ (λ n. omega (arith, c .before .before .before .before .before .before .before .shared-slice-known2 .given n)) (c .before .before .before .before .before .before .if2 .left) (c .before .before .before .before .if3 .left) (c .before .before .before .lanes-at .ensures) (c .before .before .lanes-at2 .ensures) (c .before .encode .ensures) (c .answer .ensures)
 
 pub encode-vector-spec : {M : Type 1} → statement M
 encode-vector-spec =
@@ -48,7 +44,6 @@ encode-vector-spec =
     returns-2
     shared-slice-read-c1
     returns-3
-    encode-tables-requires
     lanes-at-requires
     lanes-at-requires-2
     encode-requires

@@ -52,8 +52,8 @@ returns-5 c =
     let e = lt-ltb _ _ (c .if5 .taken) in
     (simp (z, a, b, d, e), simp (z, a, b, d, e))
 
-high-control-requires : tie.Need-high-control-requires
-high-control-requires c κs = search needs
+first-high-requires : tie.Need-first-high-requires
+first-high-requires c κs = search needs
 
 returns-6 : tie.Need-returns-6
 unfolding sendAnswer sendRoom sendChecks first
@@ -63,7 +63,7 @@ returns-6 c =
     let b = eq-eqb _ _ (c .before .before .before .before .if3 .left) in
     let d = lt-leb _ _ (c .before .before .before .if4 .left) in
     let e = le-ltb _ _ (c .before .before .if5 .left) in
-    let h = sym (c .before .high-control .ensures) in
+    let h = sym (c .before .first-high .ensures) in
     let f = lt-ltb _ _ (c .if6 .taken) in
     (simp (z, a, b, d, e, h, f), simp (z, a, b, d, e, h, f))
 
@@ -72,7 +72,7 @@ edition-of-requires c κs = search needs
 
 send-all-requires : tie.Need-send-all-requires
 send-all-requires c κs =
-    (c .before .before .before .before .before .before .before .if2 .left, c .before .before .before .before .before .before .if3 .left, c .before .before .before .before .if5 .left, low (now (c .before .before .before .before .before .before .before .before .before .before .before .args .vectors)) (c .before .before .before .high-control .result) (c .before .before .before .before .before .before .if3 .left) (c .before .before .before .high-control .ensures) (c .before .before .if6 .left))
+    (c .before .before .before .before .before .before .before .if2 .left, c .before .before .before .before .before .before .if3 .left, c .before .before .before .before .if5 .left, low (now (c .before .before .before .before .before .before .before .before .before .before .before .args .vectors)) (c .before .before .before .first-high .result) (c .before .before .before .before .before .before .if3 .left) (c .before .before .before .first-high .ensures) (c .before .before .if6 .left))
 
 same-length : tie.Need-same-length
 same-length c = search needs
@@ -85,7 +85,7 @@ returns-7 c =
     let b = eq-eqb _ _ (c .before .before .before .before .before .before .before .before .before .if3 .left) in
     let d = lt-leb _ _ (c .before .before .before .before .before .before .before .before .if4 .left) in
     let e = le-ltb _ _ (c .before .before .before .before .before .before .before .if5 .left) in
-    let h = sym (c .before .before .before .before .before .before .high-control .ensures) in
+    let h = sym (c .before .before .before .before .before .before .first-high .ensures) in
     let f = le-ltb _ _ (c .before .before .before .before .before .if6 .left) in
     let g = sym (c .before .before .before .before .edition-of .ensures) in
     (simp (z, a, b, d, e, h, f, g) (c .before .before .send-all .ensures .0), simp (z, a, b, d, e, h, f, g) (c .before .before .send-all .ensures .1))
@@ -100,7 +100,7 @@ send-spec =
     returns-4
     mul-if5
     returns-5
-    high-control-requires
+    first-high-requires
     returns-6
     edition-of-requires
     send-all-requires

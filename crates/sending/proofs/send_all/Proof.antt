@@ -4,8 +4,7 @@ use mathlib.Core.Path.{refl, sym, subst}
 use Prim.Native.Nat.{ℕ}
 use denote.Ref.{now}
 use Rattle.scrambler.proofs.Laws.{mirror-lt}
-use Rattle.tables.proofs.Entries.{lent-to-encode, lends-to-encode}
-use Rattle.sending.proofs.Answers.{filled-in, answered, placed}
+use Rattle.sending.proofs.Answers.{answered, placed}
 use borrow.Author.Needs.{needs}
 use Rattle.sending.proofs.send_all.Statement.{statement}
 use Rattle.sending.proofs.send_all.Tie as tie
@@ -13,12 +12,9 @@ use Rattle.sending.proofs.send_all.Tie as tie
 mirrored-requires : tie.Need-mirrored-requires
 mirrored-requires c κs = search needs
 
-encode-tables-requires : tie.Need-encode-tables-requires
-encode-tables-requires c κs = search needs
-
 send-groups-requires : tie.Need-send-groups-requires
 send-groups-requires c κs =
-    (lends-to-encode (c .before .before .before .before .before .before .args .edition) _ (c .before .before .encode-tables .ensures), c .before .before .before .before .before .before .pre .0, c .before .before .before .before .before .before .pre .1, c .before .before .before .before .before .before .pre .2, subst (λ (h : ℕ). h < 2 ^ 58) (sym (c .before .before .before .mirrored .ensures)) (mirror-lt (c .before .before .before .before .before .before .args .start)), refl, c .before .before .before .before .before .before .pre .3)
+    (c .before .before .before .before .pre .0, c .before .before .before .before .pre .1, c .before .before .before .before .pre .2, subst (λ (h : ℕ). h < 2 ^ 58) (sym (c .before .mirrored .ensures)) (mirror-lt (c .before .before .before .before .args .start)), refl, c .before .before .before .before .pre .3)
 
 mirrored-requires-2 : tie.Need-mirrored-requires-2
 mirrored-requires-2 c κs = search needs
@@ -31,15 +27,14 @@ same-length c = search needs
 
 returns : tie.Need-returns
 returns c =
-    let b = now (c .before .before .before .before .before .before .before .before .before .before .before .args .vectors) in
-    let l = now (c .before .before .before .before .before .before .before .before .before .before .before .args .line) in
-    let e = c .before .before .before .before .before .before .before .before .mirrored .ensures in
+    let b = now (c .before .before .before .before .before .before .before .before .before .args .vectors) in
+    let l = now (c .before .before .before .before .before .before .before .before .before .args .line) in
+    let e = c .before .before .before .before .before .before .mirrored .ensures in
     let r = c .before .before .before .before .send-groups .result in
-    let ed = c .before .before .before .before .before .before .before .before .before .before .before .args .edition in
-    let k = lent-to-encode ed _ (c .before .before .before .before .before .before .before .encode-tables .ensures) in
-    let f = filled-in _ ed k (c .before .before .before .before .send-groups .ensures) in (
-      answered ed b l _ (c .before .before .before .before .before .before .before .before .before .before .before .args .start) (c .before .before .before .before .before .before .before .before .mirrored .result) r e f (c .before .mirrored2 .result) (c .state-number .result) (c .before .mirrored2 .ensures) (c .state-number .ensures .0),
-      placed ed b l _ (c .before .before .before .before .before .before .before .before .before .before .before .args .start) (c .before .before .before .before .before .before .before .before .mirrored .result) r e f,
+    let ed = c .before .before .before .before .before .before .before .before .before .args .edition in
+    let f = c .before .before .before .before .send-groups .ensures in (
+      answered ed b l _ (c .before .before .before .before .before .before .before .before .before .args .start) (c .before .before .before .before .before .before .mirrored .result) r e f (c .before .mirrored2 .result) (c .state-number .result) (c .before .mirrored2 .ensures) (c .state-number .ensures .0),
+      placed ed b l _ (c .before .before .before .before .before .before .before .before .before .args .start) (c .before .before .before .before .before .before .mirrored .result) r e f,
     )
 
 pub send-all-spec : {M : Type 1} → statement M
@@ -47,7 +42,6 @@ send-all-spec =
     tie.close
     (tie.spec
     mirrored-requires
-    encode-tables-requires
     send-groups-requires
     mirrored-requires-2
     state-number-requires

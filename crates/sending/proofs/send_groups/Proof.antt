@@ -2,20 +2,19 @@
 use Prim.Native.Nat.{_-_}
 use native.Mathlib.Omega.{arith}
 use denote.Ref.{now}
-use Rattle.tables.specs.Tables.{editionIn}
 use borrow.Author.Needs.{needs}
 use Rattle.sending.proofs.Whole.{Sofar, first, few, small, same, turn, done}
 use Rattle.sending.proofs.send_groups.Statement.{statement}
 use Rattle.sending.proofs.send_groups.Tie as tie
 
 abbrev Inv-loop : tie.InvT-loop
-Inv-loop t bytes room₀ groups next₀ g₀ room next g = Sofar (editionIn t) next₀ bytes room₀ room next g
+Inv-loop edition bytes room₀ groups next₀ g₀ room next g = Sofar edition next₀ bytes room₀ room next g
 
 abbrev μ-loop : tie.MeasureT-loop
-μ-loop t bytes room₀ groups next₀ g₀ room next g = groups - g
+μ-loop edition bytes room₀ groups next₀ g₀ room next g = groups - g
 
 loop-holds : tie.Need-loop-holds Inv-loop μ-loop
-loop-holds c = first (editionIn (now (c .before .before .args .t))) (c .before .before .args .s) (now (c .before .before .args .bytes)) (now (c .before .before .args .room))
+loop-holds c = first (c .before .before .args .edition) (c .before .before .args .s) (now (c .before .before .args .bytes)) (now (c .before .before .args .room))
 
 mul-send-four : tie.Need-mul-send-four Inv-loop μ-loop
 mul-send-four c = search needs
@@ -25,7 +24,7 @@ send-four-requires c κs =
     let a = c .before .before .before .before .args in
     let l = c .before .loop in
     let p = c .before .before .before .before .pre in
-    (p .0, omega (arith, c .loop-test .taken), small (editionIn (now (a .t))) (a .s) (now (a .bytes)) (now (a .room)) (l .room) (l .next) (l .g) (l .inv) (p .4), omega (arith, few (editionIn (now (a .t))) (a .s) (now (a .bytes)) (now (a .room)) (l .room) (l .next) (l .g) (l .inv), p .1, p .5, l .inv .upto), omega arith, p .6)
+    (omega (arith, c .loop-test .taken), small (a .edition) (a .s) (now (a .bytes)) (now (a .room)) (l .room) (l .next) (l .g) (l .inv) (p .3), omega (arith, few (a .edition) (a .s) (now (a .bytes)) (now (a .room)) (l .room) (l .next) (l .g) (l .inv), p .0, p .4, l .inv .upto), omega arith, p .5)
 
 mul-put-group : tie.Need-mul-put-group Inv-loop μ-loop
 mul-put-group c = search needs
@@ -35,7 +34,7 @@ put-group-requires c κs =
     let a = c .before .before .before .before .before .before .before .before .before .before .args in
     let l = c .before .before .before .before .before .before .before .loop in
     let h = c .before .before .before .before .before .send-four .ensures .headers in
-    (omega (arith, same (editionIn (now (a .t))) (a .s) (now (a .bytes)) (now (a .room)) (l .room) (l .next) (l .g) (l .inv) (c .before .before .before .before .before .before .before .before .before .before .pre .3), c .before .before .before .before .before .before .loop-test .taken, c .before .before .before .before .before .before .before .before .before .before .pre .3), h .first, h .second, h .third, h .fourth)
+    (omega (arith, same (a .edition) (a .s) (now (a .bytes)) (now (a .room)) (l .room) (l .next) (l .g) (l .inv) (c .before .before .before .before .before .before .before .before .before .before .pre .2), c .before .before .before .before .before .before .loop-test .taken, c .before .before .before .before .before .before .before .before .before .before .pre .2), h .first, h .second, h .third, h .fourth)
 
 add-g : tie.Need-add-g Inv-loop μ-loop
 add-g c = search needs
@@ -47,19 +46,19 @@ loop-again : tie.Need-loop-again Inv-loop μ-loop
 loop-again c =
     let a = c .before .before .before .before .before .before .before .before .before .before .before .before .before .before .args in
     let l = c .before .before .before .before .before .before .before .before .before .before .before .loop in
-    turn (editionIn (now (a .t))) (a .s) (now (a .bytes)) (now (a .room)) (l .room) (l .next) (l .g) (l .inv) (c .before .before .before .before .before .before .before .before .before .send-four .result) (c .before .before .before .put-group .last .0) (c .before .before .before .before .before .before .before .before .before .before .loop-test .taken) (c .before .before .before .before .before .before .before .before .before .send-four .ensures) (c .before .before .before .put-group .ensures)
+    turn (a .edition) (a .s) (now (a .bytes)) (now (a .room)) (l .room) (l .next) (l .g) (l .inv) (c .before .before .before .before .before .before .before .before .before .send-four .result) (c .before .before .before .put-group .last .0) (c .before .before .before .before .before .before .before .before .before .before .loop-test .taken) (c .before .before .before .before .before .before .before .before .before .send-four .ensures) (c .before .before .before .put-group .ensures)
 
 same-length : tie.Need-same-length Inv-loop μ-loop
 same-length c =
     let a = c .before .before .before .before .args in
     let l = c .before .loop in
-    same (editionIn (now (a .t))) (a .s) (now (a .bytes)) (now (a .room)) (l .room) (l .next) (l .g) (l .inv) (c .before .before .before .before .pre .3)
+    same (a .edition) (a .s) (now (a .bytes)) (now (a .room)) (l .room) (l .next) (l .g) (l .inv) (c .before .before .before .before .pre .2)
 
 returns : tie.Need-returns Inv-loop μ-loop
 returns c =
     let a = c .before .before .before .before .args in
     let l = c .before .loop in
-    done (editionIn (now (a .t))) (a .s) (now (a .bytes)) (now (a .room)) (l .room) (l .next) (l .g) (l .inv) (c .loop-test .left) (c .before .before .before .before .pre .2)
+    done (a .edition) (a .s) (now (a .bytes)) (now (a .room)) (l .room) (l .next) (l .g) (l .inv) (c .loop-test .left) (c .before .before .before .before .pre .1)
 
 pub send-groups-spec : {M : Type 1} → statement M
 send-groups-spec =

@@ -3,12 +3,13 @@ use mathlib.Core.Path.{ap, _∙_}
 use native.Mathlib.Omega.{arith}
 use denote.Ref.{now}
 use Rattle.block.specs.Block.{carrier}
-use Rattle.tables.specs.Tables.{editionIn}
 use Rattle.encoding.specs.Answer.{codedOf}
 use Rattle.sending.proofs.Laws.{vector-read}
 use borrow.Author.Needs.{needs}
 use Rattle.sending.proofs.vector_at.Statement.{statement}
 use Rattle.sending.proofs.vector_at.Tie as tie
+use Rattle.encoding.proofs.encode.Reads as encode-reads
+use Rattle.encoding.proofs.lanes_at.Reads as lanes-at-reads
 
 shared-slice-read-c0 : tie.Need-shared-slice-read-c0
 shared-slice-read-c0 c = search needs
@@ -38,8 +39,8 @@ returns : tie.Need-returns
 returns c =
     c .encode .ensures
     ∙ ap codedOf
-    (ap (carrier (editionIn (now (c .before .before .before .before .before .before .args .t))))
-    (vector-read (now (c .before .before .before .before .before .before .args .bytes)) (c .before .before .before .before .before .before .args .at) (c .before .before .lanes-at .result) (c .before .lanes-at2 .result) (λ n. omega (arith, c .before .before .before .shared-slice-known3 .given n)) (c .before .before .before .before .before .before .pre .1) (c .before .before .lanes-at .ensures) (c .before .lanes-at2 .ensures)))
+    (ap (carrier (c .before .before .before .before .before .before .args .edition))
+    (vector-read (now (c .before .before .before .before .before .before .args .bytes)) (c .before .before .before .before .before .before .args .at) (c .before .before .lanes-at .result) (c .before .lanes-at2 .result) (λ n. omega (arith, c .before .before .before .shared-slice-known3 .given n)) (c .before .before .before .before .before .before .pre .0) (c .before .before .lanes-at .ensures) (c .before .lanes-at2 .ensures)))
 
 pub vector-at-spec : {M : Type 1} → statement M
 vector-at-spec =

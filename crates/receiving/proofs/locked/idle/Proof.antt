@@ -1,5 +1,5 @@
+use Rattle.receiving.proofs.InLock.{idle-answer}
 use mathlib.Core.Path.{refl}
-use Rattle.decoding.proofs.Rows.{idle-answer}
 use Rattle.receiving.proofs.locked.idle.Statement.{statement}
 use Rattle.receiving.proofs.locked.idle.Tie as tie
 use Rattle.receiving.proofs.locked.idle.Reads as reads
@@ -7,7 +7,7 @@ use Rattle.receiving.proofs.locked.idle.Lts as lts
 
 -- src/locked.rt:292:1
 returns : tie.Need-returns
-returns c = λ ed. idle-answer ed 1 0x1e refl refl .1
+returns c = λ ed. idle-answer ed 0x1e refl .1
 
 pub idle-spec : {M : Type 1} → statement M
 idle-spec = tie.close (tie.spec returns)

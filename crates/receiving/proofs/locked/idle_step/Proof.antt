@@ -3,9 +3,8 @@ use Rattle.block.specs.Block.{decoded, kindIn}
 use Rattle.block.specs.declared.Class.{Class}
 use Rattle.diagrams.specs.Diagram.{diagramOf}
 use Rattle.diagrams.specs.declared.State.{State}
-use Rattle.decoding.proofs.Rows.{idle-answer}
 use Rattle.receiving.specs.InLock.{GoesTo}
-use Rattle.receiving.proofs.InLock.{control-control}
+use Rattle.receiving.proofs.InLock.{control-control, idle-answer}
 use borrow.Author.Needs.{needs}
 use Rattle.receiving.proofs.locked.idle_step.Statement.{statement}
 use Rattle.receiving.proofs.locked.idle_step.Tie as tie
@@ -27,7 +26,7 @@ idle-requires c κs = search needs
 steady-step-requires : tie.Need-steady-step-requires
 steady-step-requires c κs =
     let ed = c .before .before .before .before .before .before .before .args .p .receiver .link .edition in
-    (c .before .before .before .before .before .before .before .pre .0, c .before .before .before .before .before .before .before .pre .1, record { class = idle-answer ed 1 _ refl (c .before .before .before .before .before .before .before .pre .3) .0; vector = c .idle .ensures ed ∙ ap (decoded ed 1) (sym (c .before .before .before .before .before .before .before .pre .3)); good = refl }, c .before .before .before .before .before .before .before .pre .2, refl, refl, c .before .before .descramble .ensures .1)
+    (c .before .before .before .before .before .before .before .pre .0, c .before .before .before .before .before .before .before .pre .1, record { class = idle-answer ed _ (c .before .before .before .before .before .before .before .pre .3) .0; vector = c .idle .ensures ed ∙ ap (decoded ed 1) (sym (c .before .before .before .before .before .before .before .pre .3)); good = refl }, c .before .before .before .before .before .before .before .pre .2, refl, refl, c .before .before .descramble .ensures .1)
 
 -- src/locked.rt:304:1
 same-length : tie.Need-same-length

@@ -1,0 +1,5 @@
+/* What include/holzmotte.h needs of it, for a program that has no C library. */
+typedef __UINT8_TYPE__ uint8_t;
+typedef __UINT32_TYPE__ uint32_t;
+typedef __UINT64_TYPE__ uint64_t;
+#define UINT32_MAX __UINT32_MAX__
