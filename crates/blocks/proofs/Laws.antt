@@ -5,7 +5,7 @@ use Prim.Native.Nat.{ℕ, _+_, _-_, _*_, _/_, _%_, _^_, _≤_, _<_, max}
 use native.Mathlib.Nat.{add-zero, max-zero, zero-max, mod-lt}
 use native.Mathlib.Omega.{arith}
 use lib.ListN.{getD}
-use lib.Pow.{pow-pos, shr-le}
+use lib.Pow.{pow-pos, shr-le, shr-shr}
 use lib.Bits.{bitOr, or-lt}
 use Rattle.bits.specs.Bits.{bit, number, lineBit}
 use Rattle.bits.proofs.Laws.{by-lt, is-number, bit-number, number-lt, bit-shr, bit-high, bit-or, bit-mod, shifted-low, shifted-high}
@@ -66,16 +66,20 @@ two-bytes s sb at x y p q =
     let e : x + y * 256 ≡ bytesAt s at 2 = omega (arith, p, q, ap (λ (i : ℕ). getD s i 0) (add-zero at)) in
     e ∙ bytesAt-number s sb at 2
 
+-- a shift by two after another
+twice : (n a b : ℕ) → a + 2 ≡ b → n / 2 ^ a / 2 ^ 2 ≡ n / 2 ^ b
+twice n a b e = shr-shr n a 2 ∙ ap (λ (k : ℕ). n / 2 ^ k) e
+
 -- four words and two bytes have four blocks
 pub fours : (s : List ℕ) (at sh w x y z last : ℕ) → sh < 8 → Has s 64 (8 * at) w → Has s 64 (8 * (at + 8)) x → Has s 64 (8 * (at + 16)) y
     → Has s 64 (8 * (at + 24)) z → Has s 16 (8 * (at + 32)) last
     → Fours s (8 * at + sh)
     (record {
       headers = w / 2 ^ sh % 4 + x / 2 ^ (sh + 2) % 4 * 4 + y / 2 ^ (sh + 4) % 4 * 16 + z / 2 ^ (sh + 6) % 4 * 64;
-      a = bitOr (w / 2 ^ (sh + 2)) (x * 2 ^ (62 - sh) % 2 ^ 64);
-      b = bitOr (x / 2 ^ (sh + 4)) (y * 2 ^ (60 - sh) % 2 ^ 64);
-      c = bitOr (y / 2 ^ (sh + 6)) (z * 2 ^ (58 - sh) % 2 ^ 64);
-      d = bitOr (z / 2 ^ (sh + 8)) (last * 2 ^ (56 - sh) % 2 ^ 64);
+      a = bitOr (w / 2 ^ sh / 2 ^ 2) (x * 2 ^ (62 - sh) % 2 ^ 64);
+      b = bitOr (x / 2 ^ (sh + 2) / 2 ^ 2) (y * 2 ^ (60 - sh) % 2 ^ 64);
+      c = bitOr (y / 2 ^ (sh + 4) / 2 ^ 2) (z * 2 ^ (58 - sh) % 2 ^ 64);
+      d = bitOr (z / 2 ^ (sh + 6) / 2 ^ 2) (last * 2 ^ (56 - sh) % 2 ^ 64);
     })
 fours s at sh w x y z last l hw hx hy hz hl =
     let p = 8 * at in
@@ -92,10 +96,10 @@ fours s at sh w x y z last l hw hx hy hz hl =
           ∙ ap₂ (λ (i j : ℕ). headerAt s (p + sh) + headerAt s (p + sh + 66) * 4 + i * 16 + j * 64)
           (two-bits s 64 (p + 128) (p + sh + 132) y (sh + 4) y₁ (omega arith) (omega arith))
           (two-bits s 64 (p + 192) (p + sh + 198) z (sh + 6) z₁ (omega arith) (omega arith));
-      a = joined s p (p + sh + 2) w x 64 (sh + 2) (62 - sh) hw x₁ (omega arith) (omega arith) (omega arith);
-      b = joined s (p + 64) (p + sh + 66 + 2) x y 64 (sh + 4) (60 - sh) x₁ y₂ (omega arith) (omega arith) (omega arith);
-      c = joined s (p + 128) (p + sh + 132 + 2) y z 64 (sh + 6) (58 - sh) y₁ z₂ (omega arith) (omega arith) (omega arith);
-      d = joined s (p + 192) (p + sh + 198 + 2) z last 16 (sh + 8) (56 - sh) z₁ l₂ (omega arith) (omega arith) (omega arith);
+      a = ap (λ (n : ℕ). bitOr n (x * 2 ^ (62 - sh) % 2 ^ 64)) (twice w sh (sh + 2) (omega arith)) ∙ joined s p (p + sh + 2) w x 64 (sh + 2) (62 - sh) hw x₁ (omega arith) (omega arith) (omega arith);
+      b = ap (λ (n : ℕ). bitOr n (y * 2 ^ (60 - sh) % 2 ^ 64)) (twice x (sh + 2) (sh + 4) (omega arith)) ∙ joined s (p + 64) (p + sh + 66 + 2) x y 64 (sh + 4) (60 - sh) x₁ y₂ (omega arith) (omega arith) (omega arith);
+      c = ap (λ (n : ℕ). bitOr n (z * 2 ^ (58 - sh) % 2 ^ 64)) (twice y (sh + 4) (sh + 6) (omega arith)) ∙ joined s (p + 128) (p + sh + 132 + 2) y z 64 (sh + 6) (58 - sh) y₁ z₂ (omega arith) (omega arith) (omega arith);
+      d = ap (λ (n : ℕ). bitOr n (last * 2 ^ (56 - sh) % 2 ^ 64)) (twice z (sh + 6) (sh + 8) (omega arith)) ∙ joined s (p + 192) (p + sh + 198 + 2) z last 16 (sh + 8) (56 - sh) z₁ l₂ (omega arith) (omega arith) (omega arith);
     }
 
 -- two bytes, a word and two bytes more have one block

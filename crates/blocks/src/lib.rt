@@ -41,24 +41,25 @@ pub fn one_at(s: &[u8], pos: usize) -> Block
     }
 }
 
-// The four blocks from bit 8 * at + sh on: block i begins at bit sh + 2 * i of word i, so four words and two bytes have them all.
+// The four blocks from bit 8 * at + sh on: block i begins at bit sh + 2 * i of word i, so four words and two bytes have them all. A word is
+// shifted to its header, and from there to its payload.
 pub fn four_at(s: &[u8], at: usize, sh: usize) -> Four
     requires { ⌜ (at + 34 ≤ length (now s)) × (sh < 8) ⌝ }
     ensures { λ r. ⌜ Fours (now (s .entry)) (8 * at + sh) r ⌝ }
 {
-    let w = load(s, at);
+    let w = load(s, at) >> sh;
     let x = load(s, at + 8);
     let y = load(s, at + 16);
     let z = load(s, at + 24);
     let last = load_two(s, at + 32);
+    let b = x >> (sh + 2);
+    let c = y >> (sh + 4);
+    let d = z >> (sh + 6);
     Four {
-        headers: (w >> sh) % 4
-            + (x >> (sh + 2)) % 4 * 4
-            + (y >> (sh + 4)) % 4 * 16
-            + (z >> (sh + 6)) % 4 * 64,
-        a: (w >> (sh + 2)) | (x << (62 - sh)),
-        b: (x >> (sh + 4)) | (y << (60 - sh)),
-        c: (y >> (sh + 6)) | (z << (58 - sh)),
-        d: (z >> (sh + 8)) | (last << (56 - sh)),
+        headers: w % 4 + b % 4 * 4 + c % 4 * 16 + d % 4 * 64,
+        a: (w >> 2) | (x << (62 - sh)),
+        b: (b >> 2) | (y << (60 - sh)),
+        c: (c >> 2) | (z << (58 - sh)),
+        d: (d >> 2) | (last << (56 - sh)),
     }
 }

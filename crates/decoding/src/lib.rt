@@ -14,11 +14,12 @@ use block::Reason;
 mod characters;
 mod shapes;
 
-// A vector: two words, each a control byte and four lanes, lane 0 lowest.
+// A vector: two words, each a control byte and four lanes, lane 0 lowest. The control bytes stand together, so that no gap of three bytes is
+// copied with it.
 pub struct Vector {
     pub c0: u8,
-    pub d0: u32,
     pub c1: u8,
+    pub d0: u32,
     pub d1: u32,
 }
 

@@ -295,7 +295,6 @@ turns-more line r₀ r₁ r₂ p q t a b =
     let n : t .at ≡ q .at + (t .at - q .at) = omega (arith, b .grows) in
     record {
       under = b .under;
-      edition = b .edition ∙ a .edition;
       same = b .same ∙ a .same;
       past = omega (arith, a .past, b .past);
       grows = omega (arith, a .grows, b .grows);
@@ -308,7 +307,7 @@ turns-more line r₀ r₁ r₂ p q t a b =
 -- none yet
 pub stretch-first : (line room : List ℕ) (p : Progress) → Under line room p → p .pos < 8 * length line → Stretches line room room p p
 stretch-first line room p u e =
-    record { under = u; edition = refl; same = refl; past = omega arith; ends = e; grows = omega arith; rest = refl; len = refl }
+    record { under = u; same = refl; past = omega arith; ends = e; grows = omega arith; rest = refl; len = refl }
 
 -- stretches after stretches
 pub stretch-more : (line r₀ r₁ r₂ : List ℕ) (p q t : Progress) → Stretches line r₀ r₁ p q → Stretches line r₁ r₂ q t → Stretches line r₀ r₂ p t
@@ -316,7 +315,6 @@ stretch-more line r₀ r₁ r₂ p q t a b =
     let n : t .at ≡ q .at + (t .at - q .at) = omega (arith, b .grows) in
     record {
       under = b .under;
-      edition = b .edition ∙ a .edition;
       same = b .same ∙ a .same;
       past = omega (arith, a .past, b .past);
       ends = b .ends;
@@ -330,7 +328,7 @@ stretch-more line r₀ r₁ r₂ p q t a b =
 -- a turn is a stretch, where the line does not end
 pub stretch-turn : (line room room′ : List ℕ) (p p′ : Progress) → Turns line room room′ p p′ → p′ .pos < 8 * length line → Stretches line room room′ p p′
 stretch-turn line room room′ p p′ t e =
-    record { under = t .under; edition = t .edition; same = t .same; past = omega (arith, t .past); ends = e; grows = t .grows; rest = t .rest; len = t .len }
+    record { under = t .under; same = t .same; past = omega (arith, t .past); ends = e; grows = t .grows; rest = t .rest; len = t .len }
 
 -- a stretch in the receiving loop
 pub loop-stretch : (line room₀ room room′ : List ℕ) (p₀ p p′ : Progress) → Looping line room₀ room p₀ p → Stretches line room room′ p p′
@@ -339,7 +337,6 @@ loop-stretch line room₀ room room′ p₀ p p′ i t =
     let n : p′ .at ≡ p .at + (p′ .at - p .at) = omega (arith, t .grows) in
     record {
       under = t .under;
-      edition = t .edition ∙ i .edition;
       same = t .same ∙ i .same;
       rest =
           t .rest ∙ ap (λ (j : ℕ). drop j room) n ∙ sym (drop-drop (p′ .at - p .at) (p .at) room)

@@ -125,7 +125,6 @@ module _ (line room : List ℕ) (p : Progress) (u : Under line room p) (here : p
               counts = within-wide (p .counts) (p .pos) (t .next) (u .counts) (omega (arith, k .past));
               handed = handed-wide (p .handed) (p .pos) (t .next) (u .handed) (omega (arith, k .past));
             };
-        edition = refl;
         same = waited-same idle;
         past = k .past;
         grows = omega arith;
@@ -223,11 +222,6 @@ module _ (line room : List ℕ) (p : Progress) (u : Under line room p) (t : Take
         ∙ settle-handed (r .state) (r .held) (testedIn h) ts (p .handed) (r .have))
         ∙ sym (ap (outcomeOf (take (p .at) room) (r .state) (heldIn r) (p .counts) (p .handed)) block-run)
 
-    -- the edition stays
-    edition-is : link .edition ≡ p .receiver .link .edition
-    unfolding linkOf
-    edition-is = ap (λ (l : Link). l .edition) el
-
     -- the room is as long as it was
     len-is : length room′ ≡ length room
     len-is = ap length er ∙ put-length room bytes (p .at) held-fits
@@ -246,7 +240,6 @@ module _ (line room : List ℕ) (p : Progress) (u : Under line room p) (t : Take
                 counts = subst (Within (t .next)) (sym ec) (within-next (p .counts) (testedIn h) (p .pos) (t .next) (u .counts) (k .past));
                 handed = subst (HandedWithin (t .next)) (sym en) (held-within (p .receiver .have) (p .handed) (p .receiver .state) (p .receiver .held) (letsEnd (testedIn h)) (p .pos) (t .next) (u .handed) (k .past));
               };
-          edition = edition-is;
           same = moved-same;
           past = k .past;
           grows = omega arith;
@@ -259,7 +252,6 @@ module _ (line room : List ℕ) (p : Progress) (u : Under line room p) (t : Take
 -- what holds at each turn, from the room and the receiver at the start
 pub record Looping (line room₀ room : List ℕ) (p₀ p : Progress) : Type 0 where
   pub under : Under line room p
-  pub edition : p .receiver .link .edition ≡ p₀ .receiver .link .edition
   pub same : outcome line room p ≡ outcome line room₀ p₀
   pub rest : drop (p .at) room ≡ drop (p .at) room₀
   pub len : length room ≡ length room₀
@@ -276,7 +268,6 @@ loop-first line room r g s f =
     record {
       under =
           record { range = g; sound = s; pos = omega arith; at = omega arith; fits = f; counts = within-none 0; handed = handed-none 0 };
-      edition = refl;
       same = refl;
       rest = refl;
       len = refl;
@@ -289,7 +280,6 @@ loop-next line room₀ room room′ p₀ p p′ i t =
     let n : p′ .at ≡ p .at + (p′ .at - p .at) = omega (arith, t .grows) in
     record {
       under = t .under;
-      edition = t .edition ∙ i .edition;
       same = t .same ∙ i .same;
       rest =
           t .rest ∙ ap (λ (j : ℕ). drop j room) n ∙ sym (drop-drop (p′ .at - p .at) (p .at) room)

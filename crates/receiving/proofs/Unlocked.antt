@@ -385,7 +385,6 @@ module _ (line room : List ℕ) (q : Progress) (u : Under line room q) (hq : Hun
                 counts = t .under .counts;
                 handed = t .under .handed;
               };
-          edition = t .edition;
           same = same ∙ t .same;
           past = t .past;
           grows = t .grows;

@@ -107,7 +107,6 @@ pub record AllIdle (h : ℕ) (f : Four) : Type 0 where
 -- some turns, or none, leave what comes of it, and what stands in the room behind the bytes written; the line does not end
 pub record Stretches (line room room′ : List ℕ) (p p′ : Progress) : Type 0 where
   pub under : Under line room′ p′
-  pub edition : p′ .receiver .link .edition ≡ p .receiver .link .edition
   pub same : outcome line room′ p′ ≡ outcome line room p
   pub past : p .pos ≤ p′ .pos
   pub ends : p′ .pos < 8 * length line

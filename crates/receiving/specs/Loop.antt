@@ -82,10 +82,9 @@ pub record Under (line room : List ℕ) (p : Progress) : Type 0 where
   pub counts : Within (p .pos) (p .counts)
   pub handed : HandedWithin (p .pos) (p .handed)
 
--- one turn leaves the edition, what comes of it, and what stands in the room behind the bytes written
+-- one turn leaves what comes of it, and what stands in the room behind the bytes written
 pub record Turns (line room room′ : List ℕ) (p p′ : Progress) : Type 0 where
   pub under : Under line room′ p′
-  pub edition : p′ .receiver .link .edition ≡ p .receiver .link .edition
   pub same : outcome line room′ p′ ≡ outcome line room p
   pub past : p .pos < p′ .pos
   pub grows : p .at ≤ p′ .at

@@ -86,10 +86,10 @@ pub struct Held {
 // A receiver between two line bits: whether the next bit is to be skipped, the bits since the last tested block, the link, the
 // state of the receive diagram, and the block tested last, if there is one: its vector waits for a look at the next block.
 pub struct Receiver {
-    pub skip: bool,
     pub carried: Carried,
     pub link: Link,
     pub state: State,
+    pub skip: bool,
     pub have: bool,
     pub held: Held,
 }

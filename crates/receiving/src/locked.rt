@@ -230,12 +230,12 @@ fn general_step(
     let held = r.held;
     let before = held.class;
     let handed = p.handed;
-    let state = diagram_step(state, decoding::kind_in(before), ends);
-    let out = hand_out(handed, state, held);
-    let own = out.vector;
+    let next = diagram_step(state, decoding::kind_in(before), ends);
+    let out = hand_out(handed, next, held);
+    let answer = out.vector;
     let handed = out.handed;
-    put_vector(room, p.at, own);
-    advanced(p, end, history, state, class, vector, handed)
+    put_vector(room, p.at, answer);
+    advanced(p, end, history, next, class, vector, handed)
 }
 
 // A data block in a stretch of them.

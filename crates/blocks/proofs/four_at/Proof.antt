@@ -8,133 +8,138 @@ use Rattle.blocks.proofs.four_at.Lts as lts
 use Rattle.blocks.proofs.load_two.Reads as load-two-reads
 use Rattle.line.proofs.load.Reads as load-reads
 
+-- src/lib.rt:50:13
 load-requires : tie.Need-load-requires
 load-requires c κs = search needs
 
+-- src/lib.rt:50:13
+shr-w : tie.Need-shr-w
+shr-w c = search needs
+
+-- src/lib.rt:51:21
 add-load : tie.Need-add-load
 add-load c = search needs
 
+-- src/lib.rt:51:9
 load-requires-2 : tie.Need-load-requires-2
 load-requires-2 c κs = search needs
 
+-- src/lib.rt:52:21
 add-load-2 : tie.Need-add-load-2
 add-load-2 c = search needs
 
+-- src/lib.rt:52:9
 load-requires-3 : tie.Need-load-requires-3
 load-requires-3 c κs = search needs
 
+-- src/lib.rt:53:21
 add-load-3 : tie.Need-add-load-3
 add-load-3 c = search needs
 
+-- src/lib.rt:53:9
 load-requires-4 : tie.Need-load-requires-4
 load-requires-4 c κs = search needs
 
+-- src/lib.rt:54:28
 add-load-two : tie.Need-add-load-two
 add-load-two c = search needs
 
+-- src/lib.rt:54:9
 load-two-requires : tie.Need-load-two-requires
 load-two-requires c κs = search needs
 
-shr-t11 : tie.Need-shr-t11
-shr-t11 c = search needs
+-- src/lib.rt:55:19
+add-b : tie.Need-add-b
+add-b c = search needs
 
-add-t9 : tie.Need-add-t9
-add-t9 c = search needs
+-- src/lib.rt:55:13
+shr-b : tie.Need-shr-b
+shr-b c = search needs
 
-shr-t14 : tie.Need-shr-t14
-shr-t14 c = search needs
+-- src/lib.rt:56:19
+add-c : tie.Need-add-c
+add-c c = search needs
 
-mul-t16 : tie.Need-mul-t16
-mul-t16 c = search needs
+-- src/lib.rt:56:13
+shr-c : tie.Need-shr-c
+shr-c c = search needs
 
-add-t17 : tie.Need-add-t17
-add-t17 c = search needs
+-- src/lib.rt:57:19
+add-d : tie.Need-add-d
+add-d c = search needs
 
-add-t18 : tie.Need-add-t18
-add-t18 c = search needs
+-- src/lib.rt:57:13
+shr-d : tie.Need-shr-d
+shr-d c = search needs
 
-shr-t20 : tie.Need-shr-t20
-shr-t20 c = search needs
+-- src/lib.rt:59:26
+mul-t15 : tie.Need-mul-t15
+mul-t15 c = search needs
 
-mul-t22 : tie.Need-mul-t22
-mul-t22 c = search needs
+-- src/lib.rt:59:18
+add-t16 : tie.Need-add-t16
+add-t16 c = search needs
 
-add-t23 : tie.Need-add-t23
-add-t23 c = search needs
+-- src/lib.rt:59:38
+mul-t18 : tie.Need-mul-t18
+mul-t18 c = search needs
 
-add-t24 : tie.Need-add-t24
-add-t24 c = search needs
+-- src/lib.rt:59:18
+add-t19 : tie.Need-add-t19
+add-t19 c = search needs
 
-shr-t26 : tie.Need-shr-t26
-shr-t26 c = search needs
+-- src/lib.rt:59:51
+mul-t21 : tie.Need-mul-t21
+mul-t21 c = search needs
 
-mul-t28 : tie.Need-mul-t28
-mul-t28 c = search needs
+-- src/lib.rt:59:18
+add-t22 : tie.Need-add-t22
+add-t22 c = search needs
 
-add-t29 : tie.Need-add-t29
-add-t29 c = search needs
+-- src/lib.rt:60:30
+sub-t14 : tie.Need-sub-t14
+sub-t14 c = search needs
 
-add-t30 : tie.Need-add-t30
-add-t30 c = search needs
+-- src/lib.rt:60:24
+shl-t25 : tie.Need-shl-t25
+shl-t25 c = search needs
 
-shr-t32 : tie.Need-shr-t32
-shr-t32 c = search needs
+-- src/lib.rt:61:30
+sub-t28 : tie.Need-sub-t28
+sub-t28 c = search needs
 
+-- src/lib.rt:61:24
+shl-t30 : tie.Need-shl-t30
+shl-t30 c = search needs
+
+-- src/lib.rt:62:30
 sub-t33 : tie.Need-sub-t33
 sub-t33 c = search needs
 
+-- src/lib.rt:62:24
 shl-t35 : tie.Need-shl-t35
 shl-t35 c = search needs
 
-add-t37 : tie.Need-add-t37
-add-t37 c = search needs
+-- src/lib.rt:63:33
+sub-t38 : tie.Need-sub-t38
+sub-t38 c = search needs
 
-shr-t39 : tie.Need-shr-t39
-shr-t39 c = search needs
+-- src/lib.rt:63:24
+shl-t40 : tie.Need-shl-t40
+shl-t40 c = search needs
 
-sub-t40 : tie.Need-sub-t40
-sub-t40 c = search needs
-
-shl-t42 : tie.Need-shl-t42
-shl-t42 c = search needs
-
-add-t44 : tie.Need-add-t44
-add-t44 c = search needs
-
-shr-t46 : tie.Need-shr-t46
-shr-t46 c = search needs
-
-sub-t47 : tie.Need-sub-t47
-sub-t47 c = search needs
-
-shl-t49 : tie.Need-shl-t49
-shl-t49 c = search needs
-
-add-t51 : tie.Need-add-t51
-add-t51 c = search needs
-
-shr-t53 : tie.Need-shr-t53
-shr-t53 c = search needs
-
-sub-t54 : tie.Need-sub-t54
-sub-t54 c = search needs
-
-shl-t56 : tie.Need-shl-t56
-shl-t56 c = search needs
-
+-- src/lib.rt:46:1
 returns : tie.Need-returns
 returns c =
-    let a = c .before .before .before .before .before .before .args in
-    fours (now (a .s)) (a .at) (a .sh) (c .before .before .before .before .load .result) (c .before .before .before .load2 .result)
-    (c .before .before .load3 .result) (c .before .load4 .result) (c .load-two .result) (c .before .before .before .before .before .before .pre .1)
-    (c .before .before .before .before .load .ensures) (c .before .before .before .load2 .ensures) (c .before .before .load3 .ensures) (c .before .load4 .ensures)
-    (c .load-two .ensures)
+    fours (now (c .before .before .before .before .before .before .args .s)) (c .before .before .before .before .before .before .args .at) (c .before .before .before .before .before .before .args .sh) (c .before .before .before .before .load .result) (c .before .before .before .load2 .result) (c .before .before .load3 .result) (c .before .load4 .result) (c .load-two .result) (c .before .before .before .before .before .before .pre .1)
+    (c .before .before .before .before .load .ensures) (c .before .before .before .load2 .ensures) (c .before .before .load3 .ensures) (c .before .load4 .ensures) (c .load-two .ensures)
 
 pub four-at-spec : {M : Type 1} → statement M
 four-at-spec =
     tie.close
     (tie.spec
     load-requires
+    shr-w
     add-load
     load-requires-2
     add-load-2
@@ -143,33 +148,24 @@ four-at-spec =
     load-requires-4
     add-load-two
     load-two-requires
-    shr-t11
-    add-t9
-    shr-t14
-    mul-t16
-    add-t17
-    add-t18
-    shr-t20
-    mul-t22
-    add-t23
-    add-t24
-    shr-t26
-    mul-t28
-    add-t29
-    add-t30
-    shr-t32
+    add-b
+    shr-b
+    add-c
+    shr-c
+    add-d
+    shr-d
+    mul-t15
+    add-t16
+    mul-t18
+    add-t19
+    mul-t21
+    add-t22
+    sub-t14
+    shl-t25
+    sub-t28
+    shl-t30
     sub-t33
     shl-t35
-    add-t37
-    shr-t39
-    sub-t40
-    shl-t42
-    add-t44
-    shr-t46
-    sub-t47
-    shl-t49
-    add-t51
-    shr-t53
-    sub-t54
-    shl-t56
+    sub-t38
+    shl-t40
     returns)
