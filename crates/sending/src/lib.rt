@@ -71,23 +71,7 @@ fn octets_at(bytes: &[u8], at: usize) -> u64
     lanes_at(bytes, at + 1) as u64 + lanes_at(bytes, at + 6) as u64 * 4294967296
 }
 
-// The vector at a place of the vector bytes, encoded.
-fn vector_at(edition: Edition, bytes: &[u8], at: usize) -> Coded
-    requires { ⌜ (at + 10 ≤ length (now bytes)) × (getD (now bytes) at 0 ≤ 15) × (getD (now bytes) (at + 5) 0 ≤ 15) ⌝ }
-    ensures { λ r. ⌜ Codes edition (now (bytes .entry)) at r ⌝ }
-{
-    let c0 = bytes[at];
-    let c1 = bytes[at + 5];
-    encode(
-        edition,
-        c0,
-        lanes_at(bytes, at + 1),
-        c1,
-        lanes_at(bytes, at + 6),
-    )
-}
-
-// The same of one without control characters.
+// The vector at a place of the vector bytes, encoded: one without control characters.
 fn data_at(bytes: &[u8], at: usize) -> Coded
     requires { ⌜ (at + 10 ≤ length (now bytes)) × (getD (now bytes) at 0 + getD (now bytes) (at + 5) 0 ≡ 0) ⌝ }
     ensures { λ r. ⌜ ((ed : Edition) → Codes ed (now (bytes .entry)) at r) ⌝ }
@@ -96,6 +80,47 @@ fn data_at(bytes: &[u8], at: usize) -> Coded
         kind: Kind::D,
         header: 2,
         payload: octets_at(bytes, at),
+    }
+}
+
+// The same of any. What encoding answers is handed on field by field, and asked for at two places: so the compiler keeps it out of the way of
+// data, which is part of every loop that takes it.
+fn vector_at(edition: Edition, bytes: &[u8], at: usize) -> Coded
+    requires { ⌜ (at + 10 ≤ length (now bytes)) × (getD (now bytes) at 0 ≤ 15) × (getD (now bytes) (at + 5) 0 ≤ 15) ⌝ }
+    ensures { λ r. ⌜ Codes edition (now (bytes .entry)) at r ⌝ }
+{
+    let c0 = bytes[at];
+    let c1 = bytes[at + 5];
+    if c0 == 0 {
+        if c1 == 0 {
+            return data_at(bytes, at);
+        }
+        let e = encode(
+            edition,
+            c0,
+            lanes_at(bytes, at + 1),
+            c1,
+            lanes_at(bytes, at + 6),
+        );
+        let kind = e.kind;
+        return Coded {
+            kind: kind,
+            header: e.header,
+            payload: e.payload,
+        };
+    }
+    let e = encode(
+        edition,
+        c0,
+        lanes_at(bytes, at + 1),
+        c1,
+        lanes_at(bytes, at + 6),
+    );
+    let kind = e.kind;
+    Coded {
+        kind: kind,
+        header: e.header,
+        payload: e.payload,
     }
 }
 
