@@ -7,15 +7,16 @@ use native.Mathlib.Omega.{arith}
 use lib.ListN.{length, getD, take, drop}
 use lib.Seq.{drop-drop}
 use Rattle.block.specs.declared.Edition.{Edition}
+use Rattle.block.specs.declared.Edition.the-variants.{New}
 use Rattle.block.specs.declared.Kind.the-variants.{D}
 use Rattle.block.specs.Block.{carrier}
 use Rattle.encoding.specs.Answer.{codedOf}
 use Rattle.encoding.specs.Parts.{lanesAt}
-use Rattle.encoding.proofs.Answers.{data-coded, idle-coded}
+use Rattle.encoding.proofs.Answers.{data-coded, idle-coded, low-coded}
 use Rattle.sending.specs.Send.{vectorsIn}
 use Rattle.sending.specs.declared.Sender.{Sender}
 use Rattle.sending.specs.declared.Step.{Step}
-use Rattle.sending.specs.Sends.{octetsAt, Codes, idleCoded, controlsAt, Low, Sends, Steps, wordsOf, Groups}
+use Rattle.sending.specs.Sends.{octetsAt, Codes, idleCoded, lowPowerCoded, Each, AllAre, controlsAt, Low, Sends, Steps, wordsOf, Groups}
 use Rattle.sending.proofs.Laws.{vector-read, sends-join}
 
 -- the four vectors from a place on
@@ -92,7 +93,7 @@ module _ (bytes : List ℕ) (at : ℕ) where
         paired (λ x y. (x ≡ 15) × (y ≡ 15))
         (omega (arith, w), omega (arith, w)) (omega (arith, w), omega (arith, w)) (omega (arith, w), omega (arith, w)) (omega (arith, w), omega (arith, w))
 
--- ---- a vector of data alone, and eight idles
+-- ---- a vector of data alone, eight idles, and eight low power idles
 
 module _ (bytes : List ℕ) (at : ℕ) (b : (n : ℕ) → getD bytes n 0 < 256) (l : at + 10 ≤ length bytes) where
   lanes-lt : (p : ℕ) → lanesAt bytes p < 2 ^ 32
@@ -106,8 +107,34 @@ module _ (bytes : List ℕ) (at : ℕ) (b : (n : ℕ) → getD bytes n 0 < 256) 
       ∙ data-coded ed (getD bytes at 0) (lanesAt bytes (at + 1)) (getD bytes (at + 5) 0) (lanesAt bytes (at + 6)) (lanes-lt (at + 1)) (lanes-lt (at + 6)) m
       ∙ ap (λ (v : List ℕ). codedOf (carrier ed v)) (vector-read bytes at (lanesAt bytes (at + 1)) (lanesAt bytes (at + 6)) b l refl refl)
 
-  pub idle-codes : (ed : Edition) (z : ℕ) → z ≡ octetsAt bytes at → getD bytes at 0 ≡ 15 → getD bytes (at + 5) 0 ≡ 15 → z ≡ 0x0707070707070707
-      → Codes ed bytes at idleCoded
-  idle-codes ed z e m n i =
-      idle-coded ed (getD bytes at 0) (lanesAt bytes (at + 1)) (getD bytes (at + 5) 0) (lanesAt bytes (at + 6)) (omega arith) (omega arith) (lanes-lt (at + 1)) (omega arith) (sym e ∙ i)
+  idle-codes : (ed : Edition) → getD bytes at 0 ≡ 15 → getD bytes (at + 5) 0 ≡ 15 → octetsAt bytes at ≡ 0x0707070707070707 → Codes ed bytes at idleCoded
+  idle-codes ed m n i =
+      idle-coded ed (getD bytes at 0) (lanesAt bytes (at + 1)) (getD bytes (at + 5) 0) (lanesAt bytes (at + 6)) (omega arith) (omega arith) (lanes-lt (at + 1)) (omega arith) i
       ∙ ap (λ (v : List ℕ). codedOf (carrier ed v)) (vector-read bytes at (lanesAt bytes (at + 1)) (lanesAt bytes (at + 6)) b l refl refl)
+
+  low-power-codes : (ed : Edition) → ed ≡ New → getD bytes at 0 ≡ 15 → getD bytes (at + 5) 0 ≡ 15 → octetsAt bytes at ≡ 0x0606060606060606 → Codes ed bytes at lowPowerCoded
+  low-power-codes ed e m n i =
+      low-coded ed e (getD bytes at 0) (lanesAt bytes (at + 1)) (getD bytes (at + 5) 0) (lanesAt bytes (at + 6)) (omega arith) (omega arith) (lanes-lt (at + 1)) (omega arith) i
+      ∙ ap (λ (v : List ℕ). codedOf (carrier ed v)) (vector-read bytes at (lanesAt bytes (at + 1)) (lanesAt bytes (at + 6)) b l refl refl)
+
+-- the same of four
+module _ (bytes : List ℕ) (at : ℕ) (b : (n : ℕ) → getD bytes n 0 < 256) (l : at + 40 ≤ length bytes) (low : Low bytes) (z : at % 5 ≡ 0) (full : controlsAt bytes at ≡ 120) where
+  pub idles-each : (ed : Edition) → AllAre bytes at 0x0707070707070707 → Each ed bytes at idleCoded
+  idles-each ed w =
+      let c = all-control bytes at low z full in
+      record {
+        first = idle-codes bytes at b (omega arith) ed (c .first .0) (c .first .1) (w .first);
+        second = idle-codes bytes (at + 10) b (omega arith) ed (c .second .0) (c .second .1) (w .second);
+        third = idle-codes bytes (at + 20) b (omega arith) ed (c .third .0) (c .third .1) (w .third);
+        fourth = idle-codes bytes (at + 30) b (omega arith) ed (c .fourth .0) (c .fourth .1) (w .fourth);
+      }
+
+  pub low-power-each : (ed : Edition) → ed ≡ New → AllAre bytes at 0x0606060606060606 → Each ed bytes at lowPowerCoded
+  low-power-each ed e w =
+      let c = all-control bytes at low z full in
+      record {
+        first = low-power-codes bytes at b (omega arith) ed e (c .first .0) (c .first .1) (w .first);
+        second = low-power-codes bytes (at + 10) b (omega arith) ed e (c .second .0) (c .second .1) (w .second);
+        third = low-power-codes bytes (at + 20) b (omega arith) ed e (c .third .0) (c .third .1) (w .third);
+        fourth = low-power-codes bytes (at + 30) b (omega arith) ed e (c .fourth .0) (c .fourth .1) (w .fourth);
+      }

@@ -7,7 +7,7 @@ use Rattle.bits.specs.Bits.{streamBit, cut}
 use Rattle.line.specs.Word.{word}
 use Rattle.line.specs.declared.Block.{Block}
 use Rattle.block.specs.declared.Edition.{Edition}
-use Rattle.block.specs.declared.Kind.the-variants.{C}
+use Rattle.block.specs.declared.Kind.the-variants.{C, LI}
 use Rattle.block.specs.Block.{carrier}
 use Rattle.encoding.specs.declared.Coded.{Coded}
 use Rattle.encoding.specs.Answer.{codedOf}
@@ -39,15 +39,25 @@ octetsAt bytes at = lanesAt bytes (at + 1) + lanesAt bytes (at + 6) * 4294967296
 abbrev pub Codes : Edition → List ℕ → ℕ → Coded → Type 0
 Codes ed bytes at e = e ≡ codedOf (carrier ed (take 10 (drop at bytes)))
 
--- eight idles, and four vectors that are idles
+-- eight idles, and eight low power idles
 abbrev pub idleCoded : Coded
 idleCoded = record { kind = C; header = 1; payload = 0x1e }
 
-pub record Idles (ed : Edition) (bytes : List ℕ) (at : ℕ) : Type 0 where
-  pub first : Codes ed bytes at idleCoded
-  pub second : Codes ed bytes (at + 10) idleCoded
-  pub third : Codes ed bytes (at + 20) idleCoded
-  pub fourth : Codes ed bytes (at + 30) idleCoded
+abbrev pub lowPowerCoded : Coded
+lowPowerCoded = record { kind = LI; header = 1; payload = 0x0c183060c183061e }
+
+-- four vectors that are encoded alike, and that have the same octets
+pub record Each (ed : Edition) (bytes : List ℕ) (at : ℕ) (e : Coded) : Type 0 where
+  pub first : Codes ed bytes at e
+  pub second : Codes ed bytes (at + 10) e
+  pub third : Codes ed bytes (at + 20) e
+  pub fourth : Codes ed bytes (at + 30) e
+
+pub record AllAre (bytes : List ℕ) (at octets : ℕ) : Type 0 where
+  pub first : octetsAt bytes at ≡ octets
+  pub second : octetsAt bytes (at + 10) ≡ octets
+  pub third : octetsAt bytes (at + 20) ≡ octets
+  pub fourth : octetsAt bytes (at + 30) ≡ octets
 
 -- the control bytes of four vectors, added up
 abbrev pub controlsAt : List ℕ → ℕ → ℕ

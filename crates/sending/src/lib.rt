@@ -23,7 +23,7 @@ ghost use Rattle.encoding.specs.Answer.{codedOf};
 ghost use Rattle.line.specs.Word.{word};
 ghost use Rattle.sending.specs.Send.{replacedIn, vectorsIn, sentLine};
 ghost use Rattle.sending.specs.Answer.{sent, sentFor, Sends};
-ghost use Rattle.sending.specs.Sends.{Low, chosen, octetsAt, Codes, idleCoded, Idles, controlsAt, Steps, Groups, Fills};
+ghost use Rattle.sending.specs.Sends.{Low, chosen, octetsAt, Codes, idleCoded, lowPowerCoded, Each, AllAre, controlsAt, Steps, Groups, Fills};
 
 mod controls;
 
@@ -71,23 +71,7 @@ fn octets_at(bytes: &[u8], at: usize) -> u64
     lanes_at(bytes, at + 1) as u64 + lanes_at(bytes, at + 6) as u64 * 4294967296
 }
 
-// The vector at a place of the vector bytes, encoded.
-fn vector_at(edition: Edition, bytes: &[u8], at: usize) -> Coded
-    requires { ⌜ (at + 10 ≤ length (now bytes)) × (getD (now bytes) at 0 ≤ 15) × (getD (now bytes) (at + 5) 0 ≤ 15) ⌝ }
-    ensures { λ r. ⌜ Codes edition (now (bytes .entry)) at r ⌝ }
-{
-    let c0 = bytes[at];
-    let c1 = bytes[at + 5];
-    encode(
-        edition,
-        c0,
-        lanes_at(bytes, at + 1),
-        c1,
-        lanes_at(bytes, at + 6),
-    )
-}
-
-// The same of one without control characters.
+// The vector at a place of the vector bytes, encoded: one without control characters.
 fn data_at(bytes: &[u8], at: usize) -> Coded
     requires { ⌜ (at + 10 ≤ length (now bytes)) × (getD (now bytes) at 0 + getD (now bytes) (at + 5) 0 ≡ 0) ⌝ }
     ensures { λ r. ⌜ ((ed : Edition) → Codes ed (now (bytes .entry)) at r) ⌝ }
@@ -96,6 +80,47 @@ fn data_at(bytes: &[u8], at: usize) -> Coded
         kind: Kind::D,
         header: 2,
         payload: octets_at(bytes, at),
+    }
+}
+
+// The same of any. What encoding answers is handed on field by field, and asked for at two places: so the compiler keeps it out of the way of
+// data, which is part of every loop that takes it.
+fn vector_at(edition: Edition, bytes: &[u8], at: usize) -> Coded
+    requires { ⌜ (at + 10 ≤ length (now bytes)) × (getD (now bytes) at 0 ≤ 15) × (getD (now bytes) (at + 5) 0 ≤ 15) ⌝ }
+    ensures { λ r. ⌜ Codes edition (now (bytes .entry)) at r ⌝ }
+{
+    let c0 = bytes[at];
+    let c1 = bytes[at + 5];
+    if c0 == 0 {
+        if c1 == 0 {
+            return data_at(bytes, at);
+        }
+        let e = encode(
+            edition,
+            c0,
+            lanes_at(bytes, at + 1),
+            c1,
+            lanes_at(bytes, at + 6),
+        );
+        let kind = e.kind;
+        return Coded {
+            kind: kind,
+            header: e.header,
+            payload: e.payload,
+        };
+    }
+    let e = encode(
+        edition,
+        c0,
+        lanes_at(bytes, at + 1),
+        c1,
+        lanes_at(bytes, at + 6),
+    );
+    let kind = e.kind;
+    Coded {
+        kind: kind,
+        header: e.header,
+        payload: e.payload,
     }
 }
 
@@ -110,12 +135,15 @@ fn idles() -> Coded
     }
 }
 
-// Whether a vector of control characters alone is eight idles.
-fn idle_at(bytes: &[u8], at: usize) -> bool
-    requires { ⌜ (at + 10 ≤ length (now bytes)) × (getD (now bytes) at 0 ≡ 15) × (getD (now bytes) (at + 5) 0 ≡ 15) ⌝ }
-    ensures { λ r. ⌜ (r ≡ true → (ed : Edition) → Codes ed (now (bytes .entry)) at idleCoded) ⌝ }
+// Eight low power idles, encoded.
+fn low_power() -> Coded
+    ensures { λ r. ⌜ r ≡ lowPowerCoded ⌝ }
 {
-    octets_at(bytes, at) == 0x0707_0707_0707_0707
+    Coded {
+        kind: Kind::LI,
+        header: 1,
+        payload: 0x0c18_3060_c183_061e,
+    }
 }
 
 // "In state E the sent block is type 1e with eight codes 1e, else the vector's own."
@@ -233,7 +261,7 @@ fn send_data(bytes: &[u8], at: usize, s: Sender) -> Group
 // The same of four that are idles.
 fn send_idles(s: Sender) -> Group
     requires { ⌜ (s .history < 2 ^ 58) × (s .replaced ≤ 1000000) ⌝ }
-    ensures { λ r. ⌜ ((ed : Edition) (bytes : List ℕ) (at : ℕ) → Idles ed bytes at → Groups ed s (vectorsIn 4 (drop at bytes)) r) ⌝ }
+    ensures { λ r. ⌜ ((ed : Edition) (bytes : List ℕ) (at : ℕ) → Each ed bytes at idleCoded → Groups ed s (vectorsIn 4 (drop at bytes)) r) ⌝ }
 {
     let first = send_one(idles(), s);
     let a = first.block;
@@ -256,15 +284,41 @@ fn send_idles(s: Sender) -> Group
     }
 }
 
-// Whether four vectors of control characters alone are idles.
-fn all_idle(bytes: &[u8], at: usize) -> bool
-    requires { ⌜ (at + 40 ≤ length (now bytes)) × (at % 5 ≡ 0) × Low (now bytes) × (controlsAt (now bytes) at ≡ 120) ⌝ }
-    ensures { λ r. ⌜ (r ≡ true → (ed : Edition) → Idles ed (now (bytes .entry)) at) ⌝ }
+// The same of four that are low power idles.
+fn send_low_power(s: Sender) -> Group
+    requires { ⌜ (s .history < 2 ^ 58) × (s .replaced ≤ 1000000) ⌝ }
+    ensures { λ r. ⌜ ((ed : Edition) (bytes : List ℕ) (at : ℕ) → Each ed bytes at lowPowerCoded → Groups ed s (vectorsIn 4 (drop at bytes)) r) ⌝ }
 {
-    if idle_at(bytes, at) {
-        if idle_at(bytes, at + 10) {
-            if idle_at(bytes, at + 20) {
-                return idle_at(bytes, at + 30);
+    let first = send_one(low_power(), s);
+    let a = first.block;
+    let after_a = first.next;
+    let second = send_one(low_power(), after_a);
+    let b = second.block;
+    let after_b = second.next;
+    let third = send_one(low_power(), after_b);
+    let c = third.block;
+    let after_c = third.next;
+    let fourth = send_one(low_power(), after_c);
+    let d = fourth.block;
+    let after_d = fourth.next;
+    Group {
+        a: a,
+        b: b,
+        c: c,
+        d: d,
+        next: after_d,
+    }
+}
+
+// Whether the octets of four vectors are all these.
+fn all_are(bytes: &[u8], at: usize, octets: u64) -> bool
+    requires { ⌜ at + 40 ≤ length (now bytes) ⌝ }
+    ensures { λ r. ⌜ (r ≡ true → AllAre (now (bytes .entry)) at octets) ⌝ }
+{
+    if octets_at(bytes, at) == octets {
+        if octets_at(bytes, at + 10) == octets {
+            if octets_at(bytes, at + 20) == octets {
+                return octets_at(bytes, at + 30) == octets;
             }
         }
     }
@@ -286,7 +340,7 @@ fn controls_at(bytes: &[u8], at: usize) -> u8
         + bytes[at + 35]
 }
 
-// Four vectors sent: four of data and four of idles at once.
+// Four vectors sent: four of data, of idles or of low power idles at once.
 fn send_four(edition: Edition, bytes: &[u8], at: usize, s: Sender) -> Group
     requires { ⌜ (at + 40 ≤ length (now bytes)) × (s .history < 2 ^ 58) × (s .replaced ≤ 1000000) × (at % 5 ≡ 0) × Low (now bytes) ⌝ }
     ensures { λ r. ⌜ Groups edition s (vectorsIn 4 (drop at (now (bytes .entry)))) r ⌝ }
@@ -296,8 +350,16 @@ fn send_four(edition: Edition, bytes: &[u8], at: usize, s: Sender) -> Group
         return send_data(bytes, at, s);
     }
     if controls == 120 {
-        if all_idle(bytes, at) {
+        if all_are(bytes, at, 0x0707_0707_0707_0707) {
             return send_idles(s);
+        }
+        match edition {
+            Edition::Old => {}
+            Edition::New => {
+                if all_are(bytes, at, 0x0606_0606_0606_0606) {
+                    return send_low_power(s);
+                }
+            }
         }
     }
     send_each(edition, bytes, at, s)

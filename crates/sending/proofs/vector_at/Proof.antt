@@ -8,8 +8,6 @@ use Rattle.sending.proofs.Laws.{vector-read}
 use borrow.Author.Needs.{needs}
 use Rattle.sending.proofs.vector_at.Statement.{statement}
 use Rattle.sending.proofs.vector_at.Tie as tie
-use Rattle.encoding.proofs.encode.Reads as encode-reads
-use Rattle.encoding.proofs.lanes_at.Reads as lanes-at-reads
 
 shared-slice-read-c0 : tie.Need-shared-slice-read-c0
 shared-slice-read-c0 c = search needs
@@ -19,6 +17,12 @@ add-c1 c = search needs
 
 shared-slice-read-c1 : tie.Need-shared-slice-read-c1
 shared-slice-read-c1 c = search needs
+
+data-at-requires : tie.Need-data-at-requires
+data-at-requires c κs = search needs
+
+returns : tie.Need-returns
+returns c = c .data-at .ensures (c .before .before .before .before .before .before .args .edition)
 
 add-lanes-at : tie.Need-add-lanes-at
 add-lanes-at c = search needs
@@ -35,12 +39,34 @@ lanes-at-requires-2 c κs = search needs
 encode-requires : tie.Need-encode-requires
 encode-requires c κs = search needs
 
-returns : tie.Need-returns
-returns c =
+returns-2 : tie.Need-returns-2
+returns-2 c =
     c .encode .ensures
     ∙ ap codedOf
-    (ap (carrier (c .before .before .before .before .before .before .args .edition))
-    (vector-read (now (c .before .before .before .before .before .before .args .bytes)) (c .before .before .before .before .before .before .args .at) (c .before .before .lanes-at .result) (c .before .lanes-at2 .result) (λ n. omega (arith, c .before .before .before .shared-slice-known3 .given n)) (c .before .before .before .before .before .before .pre .0) (c .before .before .lanes-at .ensures) (c .before .lanes-at2 .ensures)))
+    (ap (carrier (c .before .before .before .before .before .before .before .before .args .edition))
+    (vector-read (now (c .before .before .before .before .before .before .before .before .args .bytes)) (c .before .before .before .before .before .before .before .before .args .at) (c .before .before .lanes-at .result) (c .before .lanes-at2 .result) (λ n. omega (arith, c .before .before .before .before .before .shared-slice-known3 .given n)) (c .before .before .before .before .before .before .before .before .pre .0) (c .before .before .lanes-at .ensures) (c .before .lanes-at2 .ensures)))
+
+add-lanes-at-3 : tie.Need-add-lanes-at-3
+add-lanes-at-3 c = search needs
+
+lanes-at-requires-3 : tie.Need-lanes-at-requires-3
+lanes-at-requires-3 c κs = search needs
+
+add-lanes-at-4 : tie.Need-add-lanes-at-4
+add-lanes-at-4 c = search needs
+
+lanes-at-requires-4 : tie.Need-lanes-at-requires-4
+lanes-at-requires-4 c κs = search needs
+
+encode-requires-2 : tie.Need-encode-requires-2
+encode-requires-2 c κs = search needs
+
+returns-3 : tie.Need-returns-3
+returns-3 c =
+    c .encode2 .ensures
+    ∙ ap codedOf
+    (ap (carrier (c .before .before .before .before .before .before .before .args .edition))
+    (vector-read (now (c .before .before .before .before .before .before .before .args .bytes)) (c .before .before .before .before .before .before .before .args .at) (c .before .before .lanes-at3 .result) (c .before .lanes-at4 .result) (λ n. omega (arith, c .before .before .before .before .shared-slice-known3 .given n)) (c .before .before .before .before .before .before .before .pre .0) (c .before .before .lanes-at3 .ensures) (c .before .lanes-at4 .ensures)))
 
 pub vector-at-spec : {M : Type 1} → statement M
 vector-at-spec =
@@ -49,9 +75,17 @@ vector-at-spec =
     shared-slice-read-c0
     add-c1
     shared-slice-read-c1
+    data-at-requires
+    returns
     add-lanes-at
     lanes-at-requires
     add-lanes-at-2
     lanes-at-requires-2
     encode-requires
-    returns)
+    returns-2
+    add-lanes-at-3
+    lanes-at-requires-3
+    add-lanes-at-4
+    lanes-at-requires-4
+    encode-requires-2
+    returns-3)
