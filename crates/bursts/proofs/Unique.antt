@@ -7,7 +7,7 @@ use native.Mathlib.Omega.{arith}
 use Rattle.refusals.proofs.Laws.{number-injective}
 use Rattle.refusals.specs.Number.{numberOf}
 use Rattle.refusals.specs.declared.Refusal.{Refusal}
-use Rattle.receiving.proofs.Unique.{answer-injective}
+use Rattle.reception.proofs.Unique.{answer-injective}
 use Rattle.bursts.specs.declared.State.{State}
 use Rattle.bursts.specs.declared.Reply.{Reply}
 use Rattle.bursts.specs.declared.Begun.{Begun}

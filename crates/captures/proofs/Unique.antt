@@ -7,7 +7,7 @@ use Rattle.refusals.proofs.Laws.{number-injective}
 use Rattle.sending.specs.Answer as Sending
 use Rattle.sending.proofs.Unique as Sending′
 use Rattle.receiving.specs.Answer as Receiving
-use Rattle.receiving.proofs.Unique as Receiving′
+use Rattle.reception.proofs.Unique as Receiving′
 use Rattle.captures.specs.Captures.{body, sentOf, receivedOf, SendsRecord, ReceivesRecord}
 use Rattle.captures.specs.declared.RecordSent.{RecordSent}
 use Rattle.captures.specs.declared.RecordSent.the-variants as Send

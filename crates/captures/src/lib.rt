@@ -78,7 +78,7 @@ pub fn receive_record(file: &[u8], at: usize, room: &mut [u8]) -> RecordReceived
         Body::End => RecordReceived::End,
         Body::Refused(why, place) => RecordReceived::Refused(why, place),
         Body::Part { start, len } => {
-            RecordReceived::Received(receiving::receive(0, records::body(file, start, len), room))
+            RecordReceived::Received(reception::receive(0, records::body(file, start, len), room))
         }
     }
 }

@@ -54,7 +54,7 @@ pub fn add_counts(c: Counters, n: Counts, h: Handed) -> Counters
 pub fn receive_by_value(edition: u64, line: &[u8], room: &mut [u8], c: Counters) -> Counted
     ensures { λ r. ⌜ ReceivesCounting edition (now (line .entry)) (now (room .entry)) c (r .answer) (now (room .exit)) (r .counters) ⌝ }
 {
-    let answer = receiving::receive(edition, line, room);
+    let answer = reception::receive(edition, line, room);
     match answer {
         Received::Done(s) => {
             let n = s.counts;

@@ -2,7 +2,7 @@
 use counters::Counters;
 use counters::receive_by_value;
 use receiving::Received;
-use receiving::receive;
+use reception::receive;
 use sending::Sent;
 use sending::send;
 use slices::clear;

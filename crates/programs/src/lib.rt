@@ -79,7 +79,7 @@ fn received_output(line: &[u8], vectors: &mut [u8], out: &mut [u8]) -> usize
     requires { ⌜ (length (now vectors) ≡ 60000) × (126109 ≤ length (now out)) ⌝ }
     ensures { λ r. ⌜ Writes 0 (receiverOutput (done (now (line .entry)))) (now (out .entry)) r (now (out .exit)) ⌝ }
 {
-    match receiving::receive(0, line, vectors) {
+    match reception::receive(0, line, vectors) {
         Received::Done(s) => {
             let n = 10 * s.vectors as usize;
             let k = display::hex_lines(records::body(vectors, 0, n), out, 0);

@@ -9,9 +9,7 @@ pub mod Count
 pub mod Counted
 pub mod Settle
 pub mod Turning
-pub mod InLock
-pub mod Unlocked
+pub mod Stretching
 pub mod Closing
 pub mod Verdict
-pub mod Unique
 pub mod Cases

@@ -7,5 +7,3 @@ pub mod Last
 pub mod Ranges
 pub mod Counted
 pub mod Loop
-pub mod InLock
-pub mod Unlocked

@@ -91,6 +91,16 @@ pub record Turns (line room room′ : List ℕ) (p p′ : Progress) : Type 0 whe
   pub rest : drop (p′ .at) room′ ≡ drop (p′ .at) room
   pub len : length room′ ≡ length room
 
+-- some turns, or none, leave what comes of it, and what stands in the room behind the bytes written; the line does not end
+pub record Stretches (line room room′ : List ℕ) (p p′ : Progress) : Type 0 where
+  pub under : Under line room′ p′
+  pub same : outcome line room′ p′ ≡ outcome line room p
+  pub past : p .pos ≤ p′ .pos
+  pub ends : p′ .pos < 8 * length line
+  pub grows : p .at ≤ p′ .at
+  pub rest : drop (p′ .at) room′ ≡ drop (p′ .at) room
+  pub len : length room′ ≡ length room
+
 -- the end of the line: everything is settled but the block that is held
 pub record Ends (line room room′ : List ℕ) (r : Receiver) (p : Progress) : Type 0 where
   pub range : InRange (p .receiver .link)

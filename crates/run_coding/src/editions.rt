@@ -3,7 +3,7 @@ use crate::print;
 use crate::print_bytes;
 use crate::received::print_answer;
 use crate::spell;
-use receiving::receive;
+use reception::receive;
 use sending::send;
 
 // Vector 66 of the room.

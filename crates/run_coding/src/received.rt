@@ -7,7 +7,7 @@ use crate::print_number;
 use crate::print_refused;
 use crate::vector_bytes;
 use receiving::Received;
-use receiving::receive;
+use reception::receive;
 
 fn print_flag(b: bool) {
     if b {

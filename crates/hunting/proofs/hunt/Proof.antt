@@ -1,0 +1,60 @@
+use denote.Ref.{now}
+use mathlib.Core.Path.{sym, ap, subst, subst₂}
+use Prim.Native.Nat.{ℕ, _*_, _<_}
+use lib.ListN.{length}
+use Rattle.receiving.specs.Loop.{Under, Stretches}
+use Rattle.receiving.specs.declared.Progress.{Progress}
+use borrow.Author.Needs.{needs}
+use Rattle.hunting.proofs.hunt.Statement.{statement}
+use Rattle.hunting.proofs.hunt.Tie as tie
+use Rattle.hunting.proofs.hunt.Reads as reads
+use Rattle.hunting.proofs.hunt.Lts as lts
+use Rattle.hunting.proofs.found.Reads as found-reads
+use Rattle.hunting.proofs.hunt_blocks.Reads as hunt-blocks-reads
+use Rattle.hunting.proofs.hunts.Reads as hunts-reads
+use Rattle.hunting.proofs.searching.Reads as searching-reads
+
+-- src/hunting.rt:249:8
+hunts-requires : tie.Need-hunts-requires
+hunts-requires c κs = search needs
+
+-- src/hunting.rt:250:44
+searching-requires : tie.Need-searching-requires
+searching-requires c κs = search needs
+
+-- src/hunting.rt:250:13
+hunt-blocks-requires : tie.Need-hunt-blocks-requires
+hunt-blocks-requires c κs = (
+  c .before .before .before .before .before .before .pre .0,
+  c .before .before .before .hunts .ensures (c .before .before .if1 .taken),
+  subst (Under (now (c .before .before .before .before .before .before .args .line)) (now (c .before .before .before .before .before .before .args .room))) (sym (c .searching .ensures)) (c .before .before .before .before .before .before .pre .1),
+  subst (λ (n : ℕ). n < 8 * length (now (c .before .before .before .before .before .before .args .line))) (sym (ap (λ (z : Progress). z .pos) (c .searching .ensures))) (c .before .before .before .before .before .before .pre .2),
+)
+
+-- src/hunting.rt:251:9
+found-requires : tie.Need-found-requires
+found-requires c κs = search needs
+
+-- src/hunting.rt:251:9
+same-length : tie.Need-same-length
+same-length c = search needs
+
+-- src/hunting.rt:251:9
+returns : tie.Need-returns
+returns c = subst₂ (Stretches (now (c .before .before .before .before .before .before .before .before .before .before .args .line)) (now (c .before .before .before .before .before .before .before .before .before .before .args .room)) (c .before .before .before .hunt-blocks .last .1 .0)) (c .before .before .before .before .searching .ensures) (sym (c .found .ensures)) (c .before .before .before .hunt-blocks .ensures)
+
+-- src/hunting.rt:245:1
+returns-2 : tie.Need-returns-2
+returns-2 c = search needs
+
+pub hunt-spec : {M : Type 1} → statement M
+hunt-spec =
+    tie.close
+    (tie.spec
+    hunts-requires
+    searching-requires
+    hunt-blocks-requires
+    found-requires
+    same-length
+    returns
+    returns-2)

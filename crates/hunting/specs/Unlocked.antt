@@ -1,0 +1,61 @@
+-- A reviewer can skip this file. Blocks while not locked: what the code's search for lock does, in the words of Machine and Loop.
+use mathlib.Core.Path.{_≡_}
+use mathlib.Core.Bool.{true, false}
+use Prim.Native.Nat.{ℕ, _+_, _-_, _*_, _/_, _%_}
+use Rattle.diagrams.specs.declared.State.the-variants.{Init}
+use Rattle.receiving.specs.declared.Progress.{Progress}
+use Rattle.hunting.specs.declared.Search.{Search}
+
+-- not locked, with no header tested invalid and no window, at the first bit of a block, with a block held that was tested so, in state INIT
+pub record Hunts (p : Progress) : Type 0 where
+  pub skip : p .receiver .skip ≡ false
+  pub none : p .receiver .carried .count ≡ 0
+  pub have : p .receiver .have ≡ true
+  pub off : p .receiver .held .on ≡ false
+  pub state : p .receiver .state ≡ Init
+  pub locked : p .receiver .link .lock .locked ≡ false
+  pub clean : p .receiver .link .lock .invalid ≡ 0
+  pub blocks : p .receiver .link .rate .blocks ≡ 0
+  pub misses : p .receiver .link .rate .invalid ≡ 0
+  pub low : p .receiver .link .rate .high ≡ false
+
+-- the receiver that a search has come to. It holds another block than the one tested last, but that is answered as Local Fault all the same.
+abbrev pub foundOf : Progress → Search → Progress
+foundOf p s =
+    record {
+      receiver =
+          record {
+            skip = p .receiver .skip;
+            carried = p .receiver .carried;
+            link =
+                record {
+                  edition = p .receiver .link .edition;
+                  lock = record { tested = s .tested; invalid = p .receiver .link .lock .invalid; locked = p .receiver .link .lock .locked };
+                  rate = p .receiver .link .rate;
+                  history = s .history;
+                };
+            state = p .receiver .state;
+            have = p .receiver .have;
+            held = p .receiver .held;
+          };
+      pos = s .pos;
+      at = s .at;
+      counts =
+          record {
+            tested = p .counts .tested + s .count;
+            slips = p .counts .slips + s .misses;
+            headers = p .counts .headers + s .misses;
+            types = p .counts .types + s .types;
+            codes = p .counts .codes;
+            sets = p .counts .sets;
+          };
+      handed = p .handed;
+    }
+
+-- 1 for a header whose bits are equal, else 0
+abbrev pub missOf : ℕ → ℕ
+missOf header = 1 - (header / 2 + header) % 2
+
+-- 1 for a control header, else 0
+abbrev pub controlOf : ℕ → ℕ
+controlOf header = header % 2 * (1 - header / 2)

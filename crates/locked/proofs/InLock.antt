@@ -1,0 +1,385 @@
+-- Blocks with valid headers in lock, and stretches of them. Assumes nothing.
+use Prim.Native.Nat.{ℕ, _+_, _-_, _*_, _/_, _%_, _^_, _≤_, _<_}
+use mathlib.Core.Path.{_≡_, refl, sym, ap, ap₂, _∙_, subst}
+use mathlib.Core.Bool.{Bool, true, false, cond, not, _&&_, false≢true}
+use mathlib.Core.Logic.{_≢_}
+use mathlib.Core.List.{List, [], _∷_, _++_}
+use native.Mathlib.Omega.{arith}
+use native.Mathlib.Nat.{add-zero}
+use lib.Dec.{T, ltb}
+use lib.ListN.{length, take, drop}
+use lib.Seq.{drop-drop}
+use borrow.Author.Tests.{ltb-true}
+use Rattle.bits.specs.Bits.{bit, number, lineBit, lineBits}
+use Rattle.bits.proofs.Laws.{by-lt, number-lt}
+use Rattle.bits.proofs.Lists.{lineBit-lt}
+use Rattle.block.specs.Block.{twoWords, decoded, classOf, kindFor, kindIn, isError}
+use Rattle.block.proofs.Classes.{class-no-header}
+use Rattle.block.specs.declared.Edition.{Edition}
+use Rattle.block.specs.declared.Edition.the-variants.{Old, New}
+use Rattle.block.specs.declared.Kind.{Kind}
+use Rattle.block.specs.declared.Kind.the-variants as Kind
+use Rattle.block.specs.declared.Class.{Class}
+use Rattle.block.specs.declared.Class.the-variants as Class
+use Rattle.scrambler.specs.Scrambler.{descrambled, lineAfter}
+use Rattle.carrying.specs.Carrying.{Sound, Takes}
+use Rattle.carrying.specs.declared.Carried.{Carried}
+use Rattle.carrying.specs.declared.Taken.{Taken}
+use Rattle.carrying.proofs.Laws.{takes-whole}
+use Rattle.decoding.specs.Vector.{vectorBytes}
+use Rattle.decoding.specs.declared.Vector.{Vector}
+use Rattle.diagrams.specs.Lock.{lockOf, slipsOf}
+use Rattle.diagrams.specs.Rate.{rateOf}
+use Rattle.diagrams.specs.Diagram.{diagramOf, afterIdle, afterData, afterError, afterLow, stateNumber, follows}
+use Rattle.diagrams.specs.declared.Lock.{Lock}
+use Rattle.diagrams.specs.declared.Rate.{Rate}
+use Rattle.diagrams.specs.declared.State.{State}
+use Rattle.diagrams.specs.declared.State.the-variants.{Init, Control, Data, Terminate, Error, LowPower}
+use Rattle.diagrams.proofs.InLock.{lock-stays, no-slip, rate-valid}
+use Rattle.blocks.specs.Blocks.{headerAt, payloadAt, headersAt, Fours}
+use Rattle.blocks.specs.declared.Four.{Four}
+use Rattle.blocks.proofs.Unique.{four-at-unique}
+use Rattle.receiving.specs.Machine.{Tested, linkOf, testedOf, validOf}
+use Rattle.receiving.specs.Receive.{letsEnd, stateOf, answerIn, decodes, errs}
+use Rattle.receiving.specs.Counted.{counted, reasoned, handOut, decodedOut, HandedWithin}
+use Rattle.receiving.specs.Ranges.{InRange}
+use Rattle.receiving.specs.Loop.{testedIn, outcome, Under, Turns, heldState, heldBytes, heldHanded, Stretches}
+use Rattle.locked.specs.InLock.{InLock, GoesTo, Comes, Is, advancedOf, Steps, StepsFour, AllIdle}
+use Rattle.receiving.specs.declared.Link.{Link}
+use Rattle.receiving.specs.declared.Held.{Held}
+use Rattle.receiving.specs.declared.Counts.{Counts}
+use Rattle.receiving.specs.declared.Handed.{Handed}
+use Rattle.receiving.specs.declared.Progress.{Progress}
+use Rattle.receiving.proofs.Counted.{free, counted-is, oneMore, out-decoded, handed-wide}
+use Rattle.receiving.proofs.Settle.{as-decoded, held-put, held-ten}
+use Rattle.receiving.proofs.Turning.{moved, turn-block, held-fits}
+use Rattle.receiving.proofs.Stretching.{never, whole, whole-taken, turns-more}
+
+-- ---- where a block that is held goes
+
+-- only what a Terminate does depends on what follows
+pub goes-on : (t : State) → stateNumber t ≢ 4 → (s : State) (k : Kind) → diagramOf s k false ≡ t → (e : Bool) → diagramOf s k e ≡ t
+unfolding diagramOf afterIdle afterData afterError afterLow
+goes-on t n Init k q e = q
+goes-on t n Control k q e = q
+goes-on t n Terminate k q e = q
+goes-on t n LowPower k q e = q
+goes-on t n Data Kind.D q e = q
+goes-on t n Data Kind.C q e = q
+goes-on t n Data Kind.S q e = q
+goes-on t n Data Kind.T q e = absurd (n (ap stateNumber (sym q)))
+goes-on t n Data Kind.E q e = q
+goes-on t n Data Kind.LI q e = q
+goes-on t n Error Kind.D q e = q
+goes-on t n Error Kind.C q e = q
+goes-on t n Error Kind.S q e = q
+goes-on t n Error Kind.T q e = absurd (n (ap stateNumber (sym q)))
+goes-on t n Error Kind.E q e = q
+goes-on t n Error Kind.LI q e = q
+
+-- data goes on to data, idles to idles
+pub data-data : (e : Bool) → diagramOf Data Kind.D e ≡ Data
+unfolding diagramOf afterData
+data-data e = refl
+
+pub control-control : (e : Bool) → diagramOf Control Kind.C e ≡ Control
+unfolding diagramOf afterIdle
+control-control e = refl
+
+-- ---- one block with a valid header
+
+module _ (line room : List ℕ) (p : Progress) (header payload : ℕ) (cm : Comes line room p header payload) where
+  -- the link
+  abbrev l : Link
+  l = p .receiver .link
+
+  -- it stays locked
+  locked-still : lockOf (l .lock) (validOf header) .locked ≡ true
+  locked-still =
+      ap (λ (v : Bool). lockOf (l .lock) v .locked) (cm .valid)
+      ∙ lock-stays (l .lock) (cm .under .range .tested) (cm .under .range .invalid) (cm .lock .locked)
+
+  -- .. and not high
+  low-still : rateOf (l .rate) true true true .high ≡ false
+  low-still = ap (λ (r : Rate). r .high) (sym (rate-valid (l .rate) (cm .more) (cm .lock .few) (cm .lock .high)))
+
+  -- the link after the block
+  abbrev linked : Link
+  linked =
+      record { edition = l .edition; lock = lockOf (l .lock) true; rate = rateOf (l .rate) true true true; history = lineAfter payload (l .history) }
+
+  link-is : linked ≡ linkOf l header payload
+  unfolding linkOf
+  link-is =
+      λ i. record {
+        edition = l .edition;
+        lock = lockOf (l .lock) (sym (cm .valid) i);
+        rate = rateOf (l .rate) (sym (cm .lock .locked) i) (sym locked-still i) (sym (cm .valid) i);
+        history = lineAfter payload (l .history);
+      }
+
+  module _ (k : Class) (v : Vector) (is : Is p header payload k v) where
+    -- the block, held
+    abbrev holds : Held
+    holds = record { on = true; slipped = false; class = k; vector = v }
+
+    held-is : testedIn holds ≡ testedOf l header payload
+    unfolding testedIn testedOf
+    held-is =
+        λ i. record {
+          on = on i;
+          slipped = (sym (no-slip (l .lock) (cm .under .range .invalid)) ∙ ap (slipsOf (l .lock)) (sym (cm .valid))) i;
+          class = is .class i;
+          vector = is .vector i;
+        }
+      where
+        on : true ≡ linkOf l header payload .lock .locked && not (linkOf l header payload .rate .high)
+        on =
+            ap₂ (λ (a b : Bool). a && not b) (sym (ap (λ (x : Link). x .lock .locked) (sym link-is) ∙ lock-stays (l .lock) (cm .under .range .tested) (cm .under .range .invalid) (cm .lock .locked)))
+            (sym (ap (λ (x : Link). x .rate .high) (sym link-is) ∙ low-still))
+
+    -- it is counted as tested, and for no reason
+    counts-are : advancedOf p (lineAfter payload (l .history)) (p .receiver .state) k v (p .handed) .counts ≡ counted (p .counts) (testedIn holds)
+    unfolding testedIn
+    counts-are =
+        let c = p .counts in
+        counted-is c (testedIn holds) 0 _ refl
+        ((λ i. record { tested = c .tested + 1; slips = sym (add-zero (c .slips)) i; headers = c .headers; types = c .types; codes = c .codes; sets = c .sets })
+        ∙ free (oneMore c 0) k (subst (λ (b : Bool). T (not b)) (sym (is .good)) tt))
+
+    -- what is taken from the line
+    abbrev takes : Taken
+    takes = whole p header payload
+
+    taken-is : Takes (lineBits line) (p .pos) (p .receiver .skip) (p .receiver .carried) takes
+    taken-is = whole-taken line p header payload (cm .under .sound) (cm .lock .skip) (cm .lock .none) (omega (arith, cm .here)) (cm .header) (cm .payload)
+
+    -- the vector of the block held fits the room
+    pub one-fits : p .at + 10 ≤ length room
+    one-fits =
+        let have : length (heldBytes (p .receiver .have) (p .receiver .state) (p .receiver .held) (letsEnd (testedIn holds))) ≡ 10 =
+        ap (λ (b : Bool). length (heldBytes b (p .receiver .state) (p .receiver .held) (letsEnd (testedIn holds)))) (cm .lock .have)
+        ∙ held-ten (p .receiver .state) (p .receiver .held) (letsEnd (testedIn holds)) in
+        omega (arith, have, held-fits line room p (cm .under) takes taken-is refl linked holds link-is held-is)
+
+    -- one turn
+    module _ (s : State) (w : Vector) (n : Handed) (room′ : List ℕ)
+        (es : s ≡ stateOf (p .receiver .state) (testedIn (p .receiver .held)) (letsEnd (testedIn holds)))
+        (ew : vectorBytes w ≡ answerIn s (vectorBytes (p .receiver .held .vector)))
+        (er : room′ ≡ take (p .at) room ++ (vectorBytes w ++ drop (p .at + 10) room))
+        (en : n ≡ handOut (p .handed) (record { state = s; block = testedIn (p .receiver .held) })) where
+      abbrev next : Progress
+      next = advancedOf p (lineAfter payload (l .history)) s k v n
+
+      turn-one : Turns line room room′ p next
+      turn-one =
+          let r = p .receiver in
+          let put = held-put (r .have) (r .state) (r .held) (letsEnd (testedIn holds)) room room′ (p .at) (p .handed) n s w (cm .lock .have) es ew er en in
+          turn-block line room p (cm .under) takes taken-is refl linked holds link-is held-is s (p .at + 10) _ room′ (put .0) (put .1) (put .2) n (put .3) counts-are
+
+      pub step-one : Steps line room room′ payload p next
+      step-one =
+          record {
+            turns = turn-one;
+            lock =
+                record {
+                  skip = refl;
+                  none = cm .lock .none;
+                  have = refl;
+                  on = refl;
+                  locked = lock-stays (l .lock) (cm .under .range .tested) (cm .under .range .invalid) (cm .lock .locked);
+                  high = low-still;
+                  few = subst (λ (r : Rate). r .invalid < 16) (rate-valid (l .rate) (cm .more) (cm .lock .few) (cm .lock .high)) (cm .lock .few);
+                };
+            pos = refl;
+            blocks = ap (λ (r : Rate). r .blocks) (sym (rate-valid (l .rate) (cm .more) (cm .lock .few) (cm .lock .high)));
+            history = refl;
+          }
+
+-- ---- what the code's tests tell
+
+-- four headers by the number of all
+pub each-header : (line : List ℕ) (pos n : ℕ) → headersAt line pos ≡ n
+    → (n % 4 ≡ headerAt line pos) × (n / 4 % 4 ≡ headerAt line (pos + 66)) × (n / 16 % 4 ≡ headerAt line (pos + 132)) × (n / 64 % 4 ≡ headerAt line (pos + 198))
+each-header line pos n e =
+    let lt : (i : ℕ) → headerAt line i < 4 = λ i. number-lt 2 (λ j. lineBit line (i + j)) (λ j q. lineBit-lt line (i + j)) in
+    go (headerAt line pos) (headerAt line (pos + 66)) (headerAt line (pos + 132)) (headerAt line (pos + 198)) (lt pos) (lt (pos + 66)) (lt (pos + 132)) (lt (pos + 198)) e
+  where
+    go : (a b c d : ℕ) → a < 4 → b < 4 → c < 4 → d < 4 → a + b * 4 + c * 16 + d * 64 ≡ n → (n % 4 ≡ a) × (n / 4 % 4 ≡ b) × (n / 16 % 4 ≡ c) × (n / 64 % 4 ≡ d)
+    go a b c d la lb lc ld e = (omega arith, omega arith, omega arith, omega arith)
+
+-- a block that is not bad has a valid header
+pub good-valid : (ed : Edition) (h x : ℕ) (k : Class) → h < 4 → k ≡ classOf ed h x → isError (kindIn k) ≡ false → validOf h ≡ true
+unfolding validOf bit
+good-valid ed h x k small e g =
+    by-lt h 1 (λ l. never (sym g ∙ bad (λ q. omega arith) (λ q. omega arith)))
+    (λ l. by-lt h 2 (λ m. let z : h ≡ 1 = omega arith in ap validOf z)
+    (λ m. by-lt h 3 (λ n. let z : h ≡ 2 = omega arith in ap validOf z) (λ n. never (sym g ∙ bad (λ q. omega arith) (λ q. omega arith)))))
+  where
+    bad : (h ≡ 2 → ⊥) → (h ≡ 1 → ⊥) → isError (kindIn k) ≡ true
+    bad n m = ap (λ (z : Class). isError (kindIn z)) (e ∙ class-no-header ed h x n m)
+
+-- a block of eight idles
+idle-block : (ed : Edition) → (Class.C ≡ classOf ed 1 0x1e) × (twoWords 15 0x07070707 15 0x07070707 ≡ decoded ed 1 0x1e)
+unfolding classOf decoded kindFor
+idle-block Old = (refl, refl)
+idle-block New = (refl, refl)
+
+pub idle-answer : (ed : Edition) (x : ℕ) → x ≡ 0x1e → (Class.C ≡ classOf ed 1 x) × (twoWords 15 0x07070707 15 0x07070707 ≡ decoded ed 1 x)
+idle-answer ed x e = subst (λ (x : ℕ). (Class.C ≡ classOf ed 1 x) × (twoWords 15 0x07070707 15 0x07070707 ≡ decoded ed 1 x)) (sym e) (idle-block ed)
+
+-- ---- one block, by the code's values
+
+module _ (line room : List ℕ) (p : Progress) (header payload : ℕ) (cm : Comes line room p header payload) (k : Class) (v : Vector) (is : Is p header payload k v)
+    (history : ℕ) (eh : history ≡ lineAfter payload (p .receiver .link .history)) (room′ : List ℕ) where
+  -- the block held was tested in lock
+  held-on : (e : Bool) → diagramOf (p .receiver .state) (kindIn (p .receiver .held .class)) e ≡ stateOf (p .receiver .state) (testedIn (p .receiver .held)) e
+  unfolding stateOf testedIn
+  held-on e = sym (ap (λ (b : Bool). cond b (diagramOf (p .receiver .state) (kindIn (p .receiver .held .class)) e) Init) (cm .lock .on))
+
+  -- it goes to a state that answers it as decoded, whatever follows
+  pub step-steady : (s : State) (n : Handed) (r : Progress) → GoesTo s p → decodes s ≡ true → errs s ≡ false → n ≡ decodedOut (p .handed) (p .receiver .held .class)
+      → room′ ≡ take (p .at) room ++ (vectorBytes (p .receiver .held .vector) ++ drop (p .at + 10) room) → r ≡ advancedOf p history s k v n
+      → Steps line room room′ payload p r × (r .receiver .state ≡ s) × (r .receiver .held .class ≡ k)
+  unfolding GoesTo testedIn letsEnd
+  step-steady s n r goes d e en er q =
+      subst (λ (z : Progress). Steps line room room′ payload p z × (z .receiver .state ≡ s) × (z .receiver .held .class ≡ k))
+      (ap (λ (h : ℕ). advancedOf p h s k v n) (sym eh) ∙ sym q) (
+        step-one line room p header payload cm k v is s (p .receiver .held .vector) n room′
+            (sym (goes (follows (kindIn k))) ∙ held-on (follows (kindIn k))) (sym (as-decoded s _ d)) er
+            (en ∙ out-decoded (p .handed) s (testedIn (p .receiver .held)) d e),
+        refl,
+        refl,
+      )
+
+  -- it goes to the state that the diagram says
+  pub step-general : (s : State) (w : Vector) (n : Handed) (r : Progress)
+      → s ≡ diagramOf (p .receiver .state) (kindIn (p .receiver .held .class)) (follows (kindIn k))
+      → vectorBytes w ≡ answerIn s (vectorBytes (p .receiver .held .vector))
+      → n ≡ handOut (p .handed) (record { state = s; block = testedIn (p .receiver .held) })
+      → room′ ≡ take (p .at) room ++ (vectorBytes w ++ drop (p .at + 10) room) → r ≡ advancedOf p history s k v n
+      → Steps line room room′ payload p r
+  unfolding testedIn letsEnd
+  step-general s w n r es ew en er q =
+      subst (Steps line room room′ payload p) (ap (λ (h : ℕ). advancedOf p h s k v n) (sym eh) ∙ sym q)
+      (step-one line room p header payload cm k v is s w n room′ (es ∙ held-on (follows (kindIn k))) ew er en)
+
+-- ---- four blocks
+
+-- four steps
+pub steps-four : (line r₀ r₁ r₂ r₃ r₄ : List ℕ) (a b c d : ℕ) (p₀ p₁ p₂ p₃ p₄ : Progress)
+    → Steps line r₀ r₁ a p₀ p₁ → Steps line r₁ r₂ b p₁ p₂ → Steps line r₂ r₃ c p₂ p₃ → Steps line r₃ r₄ d p₃ p₄ → StepsFour line r₀ r₄ p₀ p₄
+steps-four line r₀ r₁ r₂ r₃ r₄ a b c d p₀ p₁ p₂ p₃ p₄ s t u v =
+    record {
+      turns =
+          turns-more line r₀ r₃ r₄ p₀ p₃ p₄ (turns-more line r₀ r₂ r₃ p₀ p₂ p₃ (turns-more line r₀ r₁ r₂ p₀ p₁ p₂ (s .turns) (t .turns)) (u .turns)) (v .turns);
+      lock = v .lock;
+      pos = omega (arith, s .pos, t .pos, u .pos, v .pos);
+    }
+
+-- headers 2 and 1 are valid
+pub data-valid : validOf 2 ≡ true
+unfolding validOf bit
+data-valid = refl
+
+pub control-valid : validOf 1 ≡ true
+unfolding validOf bit
+control-valid = refl
+
+-- what the code asks of a number
+pub under-wide : (line room : List ℕ) (p : Progress) → Under line room p → length line ≤ 825000 → (p .pos ≤ 6600000) × (p .counts .tested ≤ 6600000)
+under-wide line room p u l = (omega (arith, u .pos), omega (arith, u .pos, u .counts .tested))
+
+-- four blocks with one header come, one after the other
+module _ (line r₀ : List ℕ) (p₀ : Progress) (f : Four) (h n : ℕ) (ok : validOf h ≡ true) (digits : (h ≡ n % 4) × (h ≡ n / 4 % 4) × (h ≡ n / 16 % 4) × (h ≡ n / 64 % 4))
+    (u : Under line r₀ p₀) (il : InLock p₀) (here : p₀ .pos + 264 < 8 * length line) (fs : Fours line (p₀ .pos) f) (all : f .headers ≡ n)
+    (more : p₀ .receiver .link .rate .blocks + 4 < 19531) where
+  abbrev each : (n % 4 ≡ headerAt line (p₀ .pos)) × (n / 4 % 4 ≡ headerAt line (p₀ .pos + 66)) × (n / 16 % 4 ≡ headerAt line (p₀ .pos + 132)) × (n / 64 % 4 ≡ headerAt line (p₀ .pos + 198))
+  each = each-header line (p₀ .pos) n (sym (fs .headers) ∙ all)
+
+  pub comes-first : Comes line r₀ p₀ h (f .a)
+  comes-first =
+      record { under = u; lock = il; here = omega (arith, here); header = digits .0 ∙ each .0; payload = fs .a; valid = ok; more = omega (arith, more) }
+
+  module _ (r₁ : List ℕ) (p₁ : Progress) (s : Steps line r₀ r₁ (f .a) p₀ p₁) where
+    pub comes-second : Comes line r₁ p₁ h (f .b)
+    comes-second =
+        record {
+          under = s .turns .under;
+          lock = s .lock;
+          here = omega (arith, here, s .pos);
+          header = digits .1 ∙ each .1 ∙ ap (headerAt line) (sym (s .pos));
+          payload = fs .b ∙ ap (payloadAt line) (sym (s .pos));
+          valid = ok;
+          more = omega (arith, more, s .blocks);
+        }
+
+    module _ (r₂ : List ℕ) (p₂ : Progress) (t : Steps line r₁ r₂ (f .b) p₁ p₂) where
+      pub comes-third : Comes line r₂ p₂ h (f .c)
+      comes-third =
+          let e : p₀ .pos + 132 ≡ p₂ .pos = omega (arith, s .pos, t .pos) in
+          record {
+            under = t .turns .under;
+            lock = t .lock;
+            here = omega (arith, here, e);
+            header = digits .2 ∙ each .2 ∙ ap (headerAt line) e;
+            payload = fs .c ∙ ap (payloadAt line) e;
+            valid = ok;
+            more = omega (arith, more, s .blocks, t .blocks);
+          }
+
+      module _ (r₃ : List ℕ) (p₃ : Progress) (v : Steps line r₂ r₃ (f .c) p₂ p₃) where
+        pub comes-fourth : Comes line r₃ p₃ h (f .d)
+        comes-fourth =
+            let e : p₀ .pos + 198 ≡ p₃ .pos = omega (arith, s .pos, t .pos, v .pos) in
+            record {
+              under = v .turns .under;
+              lock = v .lock;
+              here = omega (arith, here, e);
+              header = digits .3 ∙ each .3 ∙ ap (headerAt line) e;
+              payload = fs .d ∙ ap (payloadAt line) e;
+              valid = ok;
+              more = omega (arith, more, s .blocks, t .blocks, v .blocks);
+            }
+
+-- four payloads that are idles are so to the receiver that comes to each
+module _ (line r₀ r₁ r₂ r₃ : List ℕ) (f : Four) (p₀ p₁ p₂ p₃ : Progress) (x : AllIdle (p₀ .receiver .link .history) f) (s : Steps line r₀ r₁ (f .a) p₀ p₁) where
+  pub idle-second : descrambled (f .b) (p₁ .receiver .link .history) ≡ 0x1e
+  idle-second = ap (descrambled (f .b)) (s .history) ∙ x .b
+
+  module _ (t : Steps line r₁ r₂ (f .b) p₁ p₂) where
+    second : p₂ .receiver .link .history ≡ lineAfter (f .b) (lineAfter (f .a) (p₀ .receiver .link .history))
+    second = t .history ∙ ap (lineAfter (f .b)) (s .history)
+
+    pub idle-third : descrambled (f .c) (p₂ .receiver .link .history) ≡ 0x1e
+    idle-third = ap (descrambled (f .c)) second ∙ x .c
+
+    module _ (v : Steps line r₂ r₃ (f .c) p₂ p₃) where
+      pub idle-fourth : descrambled (f .d) (p₃ .receiver .link .history) ≡ 0x1e
+      idle-fourth = ap (descrambled (f .d)) (v .history ∙ ap (lineAfter (f .c)) second) ∙ x .d
+
+-- four words, each descrambled after the one before, that are all idles
+pub all-idles : (f : Four) (h wa ha wb hb wc hc wd : ℕ)
+    → wa ≡ descrambled (f .a) h → ha ≡ lineAfter (f .a) h → wb ≡ descrambled (f .b) ha → hb ≡ lineAfter (f .b) ha
+    → wc ≡ descrambled (f .c) hb → hc ≡ lineAfter (f .c) hb → wd ≡ descrambled (f .d) hc → wa ≡ 0x1e → wb ≡ 0x1e → wc ≡ 0x1e → wd ≡ 0x1e → AllIdle h f
+all-idles f h wa ha wb hb wc hc wd ea la eb lb ec lc ed a b c d =
+    let m : hb ≡ lineAfter (f .b) (lineAfter (f .a) h) = lb ∙ ap (lineAfter (f .b)) la in
+    let n : hc ≡ lineAfter (f .c) (lineAfter (f .b) (lineAfter (f .a) h)) = lc ∙ ap (lineAfter (f .c)) m in
+    record {
+      a = sym ea ∙ a;
+      b = sym (eb ∙ ap (descrambled (f .b)) la) ∙ b;
+      c = sym (ec ∙ ap (descrambled (f .c)) m) ∙ c;
+      d = sym (ed ∙ ap (descrambled (f .d)) n) ∙ d;
+    }
+
+-- .. whichever way the four blocks were read
+pub idle-all : (line : List ℕ) (pos h : ℕ) (f : Four) → Fours line pos f → AllIdle h f → (g : Four) → Fours line pos g → AllIdle h g
+idle-all line pos h f p a g q = subst (AllIdle h) (four-at-unique line pos f g p q) a
+
+-- the loop over blocks in lock comes nearer to its end: it goes on only after a block
+pub nearer : (n a b : ℕ) (more : Bool) → more ≡ true → a ≤ b → b < n → n - b + cond (ltb a b) 1 0 < n - a + cond more 1 0
+nearer n a b more e past ends = rw e (go (ltb a b) refl)
+  where
+    go : (m : Bool) → ltb a b ≡ m → n - b + cond m 1 0 < n - a + 1
+    go true q = omega (arith, ltb-true a b q)
+    go false q = omega arith

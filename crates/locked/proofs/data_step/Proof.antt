@@ -1,0 +1,47 @@
+use mathlib.Core.Path.{refl, ap, ap₂, _∙_}
+use Rattle.block.specs.Block.{decoded, kindIn}
+use Rattle.block.specs.declared.Class.{Class}
+use Rattle.diagrams.specs.Diagram.{diagramOf}
+use Rattle.diagrams.specs.declared.State.{State}
+use Rattle.decoding.proofs.Rows.{data-answer}
+use Rattle.locked.specs.InLock.{GoesTo}
+use Rattle.locked.proofs.InLock.{data-data}
+use borrow.Author.Needs.{needs}
+use Rattle.locked.proofs.data_step.Statement.{statement}
+use Rattle.locked.proofs.data_step.Tie as tie
+use Rattle.locked.proofs.data_step.Reads as reads
+use Rattle.locked.proofs.data_step.Lts as lts
+use Rattle.locked.proofs.octets.Reads as octets-reads
+use Rattle.locked.proofs.steady_step.Reads as steady-step-reads
+use Rattle.scrambler.proofs.descramble.Reads as descramble-reads
+
+-- src/locked.rt:245:9
+descramble-requires : tie.Need-descramble-requires
+descramble-requires c κs = search needs
+
+-- src/locked.rt:250:73
+octets-requires : tie.Need-octets-requires
+octets-requires c κs = search needs
+
+-- src/locked.rt:250:5
+steady-step-requires : tie.Need-steady-step-requires
+steady-step-requires c κs =
+    let ed = c .before .before .before .before .before .before .before .args .p .receiver .link .edition in
+    (c .before .before .before .before .before .before .before .pre .0, c .before .before .before .before .before .before .before .pre .1, record { class = data-answer ed 2 _ refl .0; vector = c .octets .ensures ed ∙ ap (decoded ed 2) (c .before .before .descramble .ensures .0); good = refl }, c .before .before .before .before .before .before .before .pre .2, refl, refl, c .before .before .descramble .ensures .1)
+
+-- src/locked.rt:239:1
+same-length : tie.Need-same-length
+same-length c = search needs
+
+-- src/locked.rt:239:1
+returns : tie.Need-returns
+unfolding GoesTo
+returns c = (
+  c .before .before .steady-step .ensures .0,
+  λ e. ap₂ (λ (s : State) (k : Class). diagramOf s (kindIn k) e) (c .before .before .steady-step .ensures .1) (c .before .before .steady-step .ensures .2) ∙ data-data e,
+)
+
+pub data-step-spec : {M : Type 1} → statement M
+data-step-spec =
+    tie.close
+    (tie.spec descramble-requires octets-requires steady-step-requires same-length returns)

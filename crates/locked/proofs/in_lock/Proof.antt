@@ -1,0 +1,48 @@
+use native.Mathlib.Omega.{arith}
+use Rattle.receiving.proofs.Stretching.{never}
+use Rattle.locked.proofs.in_lock.Statement.{statement}
+use Rattle.locked.proofs.in_lock.Tie as tie
+use Rattle.locked.proofs.in_lock.Reads as reads
+use Rattle.locked.proofs.in_lock.Lts as lts
+
+-- src/locked.rt:53:9
+returns : tie.Need-returns
+returns c = λ e. never e
+
+-- src/locked.rt:56:9
+returns-2 : tie.Need-returns-2
+returns-2 c = λ e. never e
+
+-- src/locked.rt:59:9
+returns-3 : tie.Need-returns-3
+returns-3 c = λ e. never e
+
+-- src/locked.rt:62:9
+returns-4 : tie.Need-returns-4
+returns-4 c = λ e. never e
+
+-- src/locked.rt:66:13
+returns-5 : tie.Need-returns-5
+returns-5 c =
+    λ e.
+    record {
+      skip = c .before .before .before .before .before .before .before .if1 .left;
+      none = omega (arith, c .before .before .before .before .before .if2 .left);
+      have = c .if6 .taken;
+      on = e;
+      locked = c .before .if5 .taken;
+      high = c .before .before .if4 .left;
+      few = omega (arith, c .before .before .before .if3 .left);
+    }
+
+-- src/locked.rt:43:1
+returns-6 : tie.Need-returns-6
+returns-6 c = λ e. never e
+
+-- src/locked.rt:43:1
+returns-7 : tie.Need-returns-7
+returns-7 c = λ e. never e
+
+pub in-lock-spec : {M : Type 1} → statement M
+in-lock-spec =
+    tie.close (tie.spec returns returns-2 returns-3 returns-4 returns-5 returns-6 returns-7)
