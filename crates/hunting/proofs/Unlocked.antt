@@ -1,14 +1,14 @@
 -- Blocks while not locked. Assumes nothing.
 use Prim.Native.Nat.{ℕ, _+_, _-_, _*_, _/_, _%_, _^_, _≤_, _<_}
-use mathlib.Core.Path.{_≡_, refl, sym, ap, ap₂, _∙_, subst}
+use mathlib.Core.Path.{_≡_, refl, sym, ap, ap₂, _∙_, subst, subst₂}
 use mathlib.Core.Bool.{Bool, true, false, cond, not, _&&_, _||_}
 use mathlib.Core.List.{List, [], _∷_, _++_}
 use native.Mathlib.Omega.{arith}
-use native.Mathlib.Nat.{add-zero, add-assoc}
-use lib.Dec.{leb, eqb}
+use native.Mathlib.Nat.{add-zero, add-assoc, mul-zero, zero-mul}
+use lib.Dec.{T, leb, eqb}
 use lib.ListN.{length, getD, take, drop, length-drop}
 use lib.Seq.{length-take-le}
-use borrow.Author.Tests.{lt-leb}
+use borrow.Author.Tests.{lt-leb, ne-eqb}
 use Rattle.bits.specs.Bits.{bit, number, lineBit, lineBits}
 use Rattle.bits.proofs.Laws.{by-lt, number-lt}
 use Rattle.bits.proofs.Lists.{lineBit-lt, length-lineBits}
@@ -41,7 +41,7 @@ use Rattle.receiving.specs.Parts.{plus, plusHanded, settle, bytesOf}
 use Rattle.receiving.specs.Counted.{counted, reasoned, handOut}
 use Rattle.receiving.specs.Ranges.{InRange}
 use Rattle.receiving.specs.Loop.{testedIn, heldIn, feedIn, Outcome, outcomeOf, outcome, Under, Turns, heldState, heldBytes, heldHanded}
-use Rattle.hunting.specs.Unlocked.{Hunts, foundOf, missOf, controlOf}
+use Rattle.hunting.specs.Unlocked.{Hunts, foundOf, missOf, controlOf, untypedOf, Tests}
 use Rattle.receiving.specs.declared.Link.{Link}
 use Rattle.receiving.specs.declared.Held.{Held}
 use Rattle.receiving.specs.declared.Counts.{Counts}
@@ -188,27 +188,31 @@ unfolding rateOf
 rate-hunts r true valid = refl
 rate-hunts r false valid = refl
 
--- the block, by its header: its class, its vector, and what it is counted for
-pub record Tests (ed : Edition) (header x : ℕ) : Type 0 where
-  pub class : Class
-  pub vector : Vector
-  pub class-is : class ≡ classOf ed header x
-  pub vector-is : vectorBytes vector ≡ decoded ed header x
-  pub counts : (c : Counts)
-      → record { tested = c .tested; slips = c .slips; headers = c .headers + missOf header; types = c .types + controlOf header; codes = c .codes; sets = c .sets } ≡ reasoned c class
+-- a header that is not a control header counts for no type
+untyped-not : (h row : ℕ) → controlOf h ≡ 0 → untypedOf h row ≡ 0
+untyped-not h row e = go (eqb row 0)
+  where
+    go : (b : Bool) → cond b (controlOf h) 0 ≡ 0
+    go true = e
+    go false = refl
+
+-- a control header with no type
+no-row-there : (h row : ℕ) → controlOf h * row ≡ 0 → h ≡ 1 → row ≡ 0
+no-row-there h row e z = let q : controlOf 1 * row ≡ 0 = ap (λ (n : ℕ). controlOf n * row) (sym z) ∙ e in omega arith
 
 errors : Vector
 errors = record { c0 = 15; d0 = 0xfefefefe; c1 = 15; d1 = 0xfefefefe }
 
-tests-any : (ed : Edition) (header x : ℕ) → header < 4 → (header ≡ 1 → getD types (x % 256) 0 ≡ 0) → Tests ed header x
+-- a block by its header, a control block of no type among them
+pub tests-any : (ed : Edition) (header x : ℕ) → header < 4 → controlOf header * getD types (x % 256) 0 ≡ 0 → Tests ed header x
 unfolding errors
-tests-any ed header x small unknown =
-    by-lt header 1 (λ l. let z : header ≡ 0 = omega arith in subst (λ (h : ℕ). Tests ed h x) (sym z) (bad 0 (λ q. omega arith) (λ q. omega arith) refl refl))
-    (λ l. by-lt header 2 (λ m. let z : header ≡ 1 = omega arith in subst (λ (h : ℕ). Tests ed h x) (sym z) (type (unknown z)))
+tests-any ed header x small e =
+    by-lt header 1 (λ l. let z : header ≡ 0 = omega arith in subst (λ (h : ℕ). Tests ed h x) (sym z) (bad 0 (λ q. omega arith) (λ q. omega arith) refl (untyped-not 0 (getD types (x % 256) 0) refl)))
+    (λ l. by-lt header 2 (λ m. let z : header ≡ 1 = omega arith in subst (λ (h : ℕ). Tests ed h x) (sym z) (type (no-row-there header (getD types (x % 256) 0) e z)))
     (λ m. by-lt header 3 (λ n. let z : header ≡ 2 = omega arith in subst (λ (h : ℕ). Tests ed h x) (sym z) data-block)
-    (λ n. let z : header ≡ 3 = omega arith in subst (λ (h : ℕ). Tests ed h x) (sym z) (bad 3 (λ q. omega arith) (λ q. omega arith) refl refl))))
+    (λ n. let z : header ≡ 3 = omega arith in subst (λ (h : ℕ). Tests ed h x) (sym z) (bad 3 (λ q. omega arith) (λ q. omega arith) refl (untyped-not 3 (getD types (x % 256) 0) refl)))))
   where
-    bad : (h : ℕ) → (h ≡ 2 → ⊥) → (h ≡ 1 → ⊥) → missOf h ≡ 1 → controlOf h ≡ 0 → Tests ed h x
+    bad : (h : ℕ) → (h ≡ 2 → ⊥) → (h ≡ 1 → ⊥) → missOf h ≡ 1 → untypedOf h (getD types (x % 256) 0) ≡ 0 → Tests ed h x
     bad h n m em ec =
         record {
           class = Class.Bad Header;
@@ -229,7 +233,7 @@ tests-any ed header x small unknown =
           vector = errors;
           class-is = t .0;
           vector-is = t .1;
-          counts = λ c. (λ i. record { tested = c .tested; slips = c .slips; headers = add-zero (c .headers) i; types = c .types + 1; codes = c .codes; sets = c .sets }) ∙ one-type c;
+          counts = λ c. (λ i. record { tested = c .tested; slips = c .slips; headers = add-zero (c .headers) i; types = c .types + untypedOf 1 (e i); codes = c .codes; sets = c .sets }) ∙ one-type c;
         }
 
     data-block : Tests ed 2 x
@@ -240,7 +244,7 @@ tests-any ed header x small unknown =
           class-is = data-answer ed 2 x refl .0;
           vector-is = data-answer ed 2 x refl .1;
           counts =
-              λ c. (λ i. record { tested = c .tested; slips = c .slips; headers = add-zero (c .headers) i; types = add-zero (c .types) i; codes = c .codes; sets = c .sets }) ∙ free c Class.D tt;
+              λ c. (λ i. record { tested = c .tested; slips = c .slips; headers = add-zero (c .headers) i; types = (ap (λ (k : ℕ). c .types + k) (untyped-not 2 (getD types (x % 256) 0) refl) ∙ add-zero (c .types)) i; codes = c .codes; sets = c .sets }) ∙ free c Class.D tt;
         }
 
 -- the receiver after the block
@@ -293,7 +297,7 @@ module _ (line room : List ℕ) (q : Progress) (u : Under line room q) (hq : Hun
         tested = q .counts .tested + 1;
         slips = q .counts .slips + missOf header;
         headers = q .counts .headers + missOf header;
-        types = q .counts .types + controlOf header;
+        types = q .counts .types + untypedOf header (getD types (descrambled payload (q .receiver .link .history) % 256) 0);
         codes = q .counts .codes;
         sets = q .counts .sets;
       }
@@ -452,18 +456,45 @@ times-le a b l = by-lt a 1 (λ m. let z : a ≡ 0 = omega arith in rw z (omega a
 pub le-times : (a b : ℕ) → b ≤ 1 → a * b ≤ a
 le-times a b l = by-lt b 1 (λ m. let z : b ≡ 0 = omega arith in rw z (omega arith)) (λ m. let z : b ≡ 1 = omega arith in rw z (omega arith))
 
--- a control header with no type
-pub no-row-there : (h row : ℕ) → controlOf h * row ≡ 0 → h ≡ 1 → row ≡ 0
-no-row-there h row e z = let q : controlOf 1 * row ≡ 0 = ap (λ (n : ℕ). controlOf n * row) (sym z) ∙ e in omega arith
+-- a block that is decoded at once: it has a type, and is not bad
+pub tests-quick : (ed : Edition) (header x : ℕ) → header < 4 → (controlOf header * getD types (x % 256) 0 ≡ 0 → ⊥) → (k : Class) (v : Vector)
+    → (k ≡ classOf ed header x) × (vectorBytes v ≡ decoded ed header x) × (isError (kindIn k) ≡ false) → Tests ed header x
+tests-quick ed header x small some k v (ek, ev, g) =
+    let one : header ≡ 1 = is-one header small (λ z. some (ap (λ (n : ℕ). n * getD types (x % 256) 0) z ∙ zero-mul (getD types (x % 256) 0))) in
+    let row = getD types (x % 256) 0 in
+    let m : missOf header ≡ 0 = ap (λ (n : ℕ). missOf n) one in
+    let t : untypedOf header row ≡ 0 = ap (λ (b : Bool). cond b (controlOf header) 0) (ne-eqb row 0 (λ z. some (ap (λ (n : ℕ). controlOf header * n) z ∙ mul-zero (controlOf header)))) in
+    record {
+      class = k;
+      vector = v;
+      class-is = ek;
+      vector-is = ev;
+      counts =
+          λ c.
+          (λ i. record {
+            tested = c .tested;
+            slips = c .slips;
+            headers = (ap (λ (n : ℕ). c .headers + n) m ∙ add-zero (c .headers)) i;
+            types = (ap (λ (n : ℕ). c .types + n) t ∙ add-zero (c .types)) i;
+            codes = c .codes;
+            sets = c .sets;
+          })
+          ∙ free c k (subst (λ (b : Bool). T (not b)) (sym g) tt);
+    }
+  where
+    is-one : (h : ℕ) → h < 4 → (controlOf h ≡ 0 → ⊥) → h ≡ 1
+    is-one h small n =
+        by-lt h 1 (λ a. absurd (n (let z : h ≡ 0 = omega arith in ap (λ (n : ℕ). controlOf n) z)))
+        (λ a. by-lt h 2 (λ b. omega arith) (λ b. by-lt h 3 (λ c. absurd (n (let z : h ≡ 2 = omega arith in ap (λ (n : ℕ). controlOf n) z))) (λ c. absurd (n (let z : h ≡ 3 = omega arith in ap (λ (n : ℕ). controlOf n) z)))))
 
 pub hunt-turn : (line room : List ℕ) (p : Progress) (s : Search) → Hunts p → (u : Under line room (foundOf p s)) (header payload : ℕ)
     → header ≡ headerAt line (s .pos) → payload ≡ payloadAt line (s .pos) → s .pos / 8 + 18 ≤ length line → s .tested < 63
-    → (headerAt line (s .pos) ≡ 1 → getD types (descrambled (payloadAt line (s .pos)) (s .history) % 256) 0 ≡ 0)
+    → ((ed : Edition) → Tests ed (headerAt line (s .pos)) (descrambled (payloadAt line (s .pos)) (s .history)))
     → (v : Vector) → vectorBytes v ≡ localFaultVector → (room′ : List ℕ) → room′ ≡ take (s .at) room ++ (vectorBytes v ++ drop (s .at + 10) room)
-    → (m k h : ℕ) → m ≡ missOf header → k ≡ controlOf header → h ≡ lineAfter payload (s .history)
+    → (m k h : ℕ) → m ≡ missOf header → k ≡ untypedOf header (getD types (descrambled payload (s .history) % 256) 0) → h ≡ lineAfter payload (s .history)
     → Turns line room room′ (foundOf p s)
     (foundOf p (record { pos = s .pos + 66 + m; at = s .at + 10; history = h; tested = (s .tested + 1) * (1 - m); misses = s .misses + m; types = s .types + k; count = s .count + 1 }))
-hunt-turn line room p s hp u header payload eh ep ahead few unknown v ev room′ er m k h em ek eq =
+hunt-turn line room p s hp u header payload eh ep ahead few told v ev room′ er m k h em ek eq =
     subst (Turns line room room′ (foundOf p s))
     (λ i. record {
       receiver =
@@ -488,7 +519,7 @@ hunt-turn line room p s hp u header payload eh ep ahead few unknown v ev room′
             tested = add-assoc (p .counts .tested) (s .count) 1 i;
             slips = (add-assoc (p .counts .slips) (s .misses) (missOf header) ∙ ap (λ (n : ℕ). p .counts .slips + (s .misses + n)) (sym em)) i;
             headers = (add-assoc (p .counts .headers) (s .misses) (missOf header) ∙ ap (λ (n : ℕ). p .counts .headers + (s .misses + n)) (sym em)) i;
-            types = (add-assoc (p .counts .types) (s .types) (controlOf header) ∙ ap (λ (n : ℕ). p .counts .types + (s .types + n)) (sym ek)) i;
+            types = (add-assoc (p .counts .types) (s .types) (untypedOf header (getD types (descrambled payload (s .history) % 256) 0)) ∙ ap (λ (n : ℕ). p .counts .types + (s .types + n)) (sym ek)) i;
             codes = p .counts .codes;
             sets = p .counts .sets;
           };
@@ -508,8 +539,7 @@ hunt-turn line room p s hp u header payload eh ep ahead few unknown v ev room′
       low = hp .low;
     })
     header payload eh ep (omega (arith, ahead)) few small
-    (tests-any (p .receiver .link .edition) header (descrambled payload (s .history)) small
-    (λ z. ap (λ (x : ℕ). getD types (descrambled x (s .history) % 256) 0) ep ∙ unknown (sym eh ∙ z)))
+    (subst₂ (λ (h x : ℕ). Tests (p .receiver .link .edition) h (descrambled x (s .history))) (sym eh) (sym ep) (told (p .receiver .link .edition)))
     v ev room′ er)
   where
     small : header < 4
@@ -517,8 +547,8 @@ hunt-turn line room p s hp u header payload eh ep ahead few unknown v ev room′
 
 -- the vector of the block held fits the room
 pub hunt-room : (line room : List ℕ) (p : Progress) (s : Search) → Hunts p → (u : Under line room (foundOf p s)) → s .pos / 8 + 18 ≤ length line → s .tested < 63
-    → (headerAt line (s .pos) ≡ 1 → getD types (descrambled (payloadAt line (s .pos)) (s .history) % 256) 0 ≡ 0) → s .at + 10 ≤ length room
-hunt-room line room p s hp u ahead few unknown =
+    → ((ed : Edition) → Tests ed (headerAt line (s .pos)) (descrambled (payloadAt line (s .pos)) (s .history))) → s .at + 10 ≤ length room
+hunt-room line room p s hp u ahead few told =
     let small = number-lt 2 (λ i. lineBit line (s .pos + i)) (λ i q. lineBit-lt line (s .pos + i)) in
     hunt-fits line room (foundOf p s) u
     (record {
@@ -534,4 +564,4 @@ hunt-room line room p s hp u ahead few unknown =
       low = hp .low;
     })
     (headerAt line (s .pos)) (payloadAt line (s .pos)) refl refl (omega (arith, ahead)) few small
-    (tests-any (p .receiver .link .edition) (headerAt line (s .pos)) (descrambled (payloadAt line (s .pos)) (s .history)) small unknown)
+    (told (p .receiver .link .edition))

@@ -1,8 +1,18 @@
 -- A reviewer can skip this file. Blocks while not locked: what the code's search for lock does, in the words of Machine and Loop.
 use mathlib.Core.Path.{_≡_}
-use mathlib.Core.Bool.{true, false}
+use mathlib.Core.Bool.{true, false, cond}
 use Prim.Native.Nat.{ℕ, _+_, _-_, _*_, _/_, _%_}
+use lib.Dec.{eqb}
+use lib.ListN.{getD}
+use Rattle.block.specs.Block.{decoded, classOf}
+use Rattle.block.specs.declared.Edition.{Edition}
+use Rattle.block.specs.declared.Class.{Class}
+use Rattle.tables.specs.Tables.{types}
+use Rattle.decoding.specs.Vector.{vectorBytes}
+use Rattle.decoding.specs.declared.Vector.{Vector}
 use Rattle.diagrams.specs.declared.State.the-variants.{Init}
+use Rattle.receiving.specs.Counted.{reasoned}
+use Rattle.receiving.specs.declared.Counts.{Counts}
 use Rattle.receiving.specs.declared.Progress.{Progress}
 use Rattle.hunting.specs.declared.Search.{Search}
 
@@ -59,3 +69,16 @@ missOf header = 1 - (header / 2 + header) % 2
 -- 1 for a control header, else 0
 abbrev pub controlOf : ℕ → ℕ
 controlOf header = header % 2 * (1 - header / 2)
+
+-- 1 for a control block of no type, else 0; its type's row is 0 where it is none
+abbrev pub untypedOf : ℕ → ℕ → ℕ
+untypedOf header row = cond (eqb row 0) (controlOf header) 0
+
+-- a block with this header and descrambled payload is of some class and vector, and counted for a bad header, for no type, or not at all
+pub record Tests (ed : Edition) (header x : ℕ) : Type 0 where
+  pub class : Class
+  pub vector : Vector
+  pub class-is : class ≡ classOf ed header x
+  pub vector-is : vectorBytes vector ≡ decoded ed header x
+  pub counts : (c : Counts)
+      → record { tested = c .tested; slips = c .slips; headers = c .headers + missOf header; types = c .types + untypedOf header (getD types (x % 256) 0); codes = c .codes; sets = c .sets } ≡ reasoned c class

@@ -1,7 +1,8 @@
-// Blocks while not locked: their headers are tested, and each is answered as Local Fault. What is counted wants no more than the type of a
-// control block, as long as it is none. No branch hangs on a header. What is left stands with `turn`.
+// Blocks while not locked: their headers are tested, and each is answered as Local Fault. What is counted wants to know of a control block that
+// its type is none, or that it is decoded at once and so not bad. No branch hangs on a header. What is left stands with `turn`.
 use blocks::one_at;
 use decoding::Vector;
+use decoding::quick;
 use diagrams::Lock;
 use diagrams::State;
 use line::Block;
@@ -15,15 +16,15 @@ use vectors::put_vector;
 ghost use mathlib.Core.Path.{_≡_};
 ghost use mathlib.Core.Bool.{true, false};
 ghost use Prim.Native.Nat.{_+_, _*_, _/_, _%_, _^_, _≤_, _<_};
-ghost use lib.ListN.{length, getD};
+ghost use lib.ListN.{length};
 ghost use Rattle.block.specs.Block.{localFaultVector};
+ghost use Rattle.block.specs.declared.Edition.{Edition};
 ghost use Rattle.blocks.specs.Blocks.{headerAt, payloadAt};
 ghost use Rattle.decoding.specs.Vector.{vectorBytes};
 ghost use Rattle.diagrams.specs.declared.State.the-variants.{Init};
 ghost use Rattle.scrambler.specs.Scrambler.{descrambled};
-ghost use Rattle.tables.specs.Tables.{types};
 ghost use Rattle.receiving.specs.Loop.{Under, Turns, Stretches};
-ghost use Rattle.hunting.specs.Unlocked.{Hunts, foundOf, missOf, controlOf};
+ghost use Rattle.hunting.specs.Unlocked.{Hunts, foundOf, missOf, controlOf, untypedOf, Tests};
 
 // How far a search for lock has come: the next line bit, the next byte of the room, the last 58 payload bits, and the headers tested since
 // the last slip; and of all blocks tested how many slipped, how many were control blocks of no type, and how many there were.
@@ -173,17 +174,29 @@ fn found(p: Progress, s: Search) -> Progress
     }
 }
 
-// Whether a block and one more are there, the block would not lock, and it is no control block with the type of a format.
+// 1 for a control block of no type, else 0; row is its type's.
+fn untyped(header: u64, row: usize) -> u64
+    requires { ⌜ header < 4 ⌝ }
+    ensures { λ r. ⌜ (r ≡ untypedOf header row) × (r ≤ 1) ⌝ }
+{
+    if row == 0 { control(header) } else { 0 }
+}
+
+// Whether a block and one more are there, the block would not lock, and what it is counted for is known without decoding it.
 fn hunts_on(line: &[u8], s: Search) -> bool
     requires { ⌜ (length (now line) ≤ 825000) × (s .history < 2 ^ 58) ⌝ }
-    ensures { λ r. ⌜ (r ≡ true → (s .pos / 8 + 18 ≤ length (now (line .entry))) × (s .tested < 63) × (headerAt (now (line .entry)) (s .pos) ≡ 1 → getD types (descrambled (payloadAt (now (line .entry)) (s .pos)) (s .history) % 256) 0 ≡ 0)) ⌝ }
+    ensures { λ r. ⌜ (r ≡ true → (s .pos / 8 + 18 ≤ length (now (line .entry))) × (s .tested < 63) × ((ed : Edition) → Tests ed (headerAt (now (line .entry)) (s .pos)) (descrambled (payloadAt (now (line .entry)) (s .pos)) (s .history)))) ⌝ }
 {
     if s.pos / 8 + 18 <= line.len() {
         if s.tested < 63 {
             let b = one_at(line, s.pos);
             let plain = descramble(b.payload, s.history);
             let row = type_row(plain.word % 256);
-            return control(b.header) * row as u64 == 0;
+            if control(b.header) * row as u64 == 0 {
+                return true;
+            }
+            let q = quick(b.header, plain.word);
+            return q.there;
         }
     }
     false
@@ -191,12 +204,13 @@ fn hunts_on(line: &[u8], s: Search) -> bool
 
 // One block tested: the block held is answered as Local Fault.
 fn hunt_step(line: &[u8], room: &mut [u8], p: Progress, s: Search) -> Search
-    requires { ⌜ (length (now line) ≤ 825000) × Hunts p × Under (now line) (now room) (foundOf p s) × (s .pos / 8 + 18 ≤ length (now line)) × (s .tested < 63) × (headerAt (now line) (s .pos) ≡ 1 → getD types (descrambled (payloadAt (now line) (s .pos)) (s .history) % 256) 0 ≡ 0) ⌝ }
+    requires { ⌜ (length (now line) ≤ 825000) × Hunts p × Under (now line) (now room) (foundOf p s) × (s .pos / 8 + 18 ≤ length (now line)) × (s .tested < 63) × ((ed : Edition) → Tests ed (headerAt (now line) (s .pos)) (descrambled (payloadAt (now line) (s .pos)) (s .history))) ⌝ }
     ensures { λ r. ⌜ Turns (now (line .entry)) (now (room .entry)) (now (room .exit)) (foundOf p s) (foundOf p r) × (r .pos < 8 * length (now (line .entry))) ⌝ }
 {
     let end = s.at + 10;
     let b = one_at(line, s.pos);
     let plain = descramble(b.payload, s.history);
+    let row = type_row(plain.word % 256);
     let miss = miss(b.header);
     put_vector(room, s.at, local_fault());
     Search {
@@ -205,7 +219,7 @@ fn hunt_step(line: &[u8], room: &mut [u8], p: Progress, s: Search) -> Search
         history: plain.history,
         tested: (s.tested + 1) * (1 - miss),
         misses: s.misses + miss,
-        types: s.types + control(b.header),
+        types: s.types + untyped(b.header, row),
         count: s.count + 1,
     }
 }

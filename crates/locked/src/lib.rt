@@ -1,9 +1,11 @@
 // Blocks in lock. A stretch of data, or of idles, goes four blocks at a time; any other block that is decoded at once goes by itself. What is
 // left stands with `turn`.
 use block::Class;
+use block::Edition;
 use blocks::Four;
 use blocks::four_at;
 use blocks::one_at;
+use decoding::QuickDecoded;
 use decoding::Vector;
 use decoding::quick;
 use diagrams::State;
@@ -26,7 +28,7 @@ ghost use mathlib.Core.Path.{_≡_};
 ghost use mathlib.Core.Bool.{Bool, true, false};
 ghost use Prim.Native.Nat.{_+_, _*_, _/_, _%_, _^_, _≤_, _<_};
 ghost use lib.ListN.{length};
-ghost use Rattle.block.specs.Block.{decoded, kindIn};
+ghost use Rattle.block.specs.Block.{decoded, classOf, kindIn, isError};
 ghost use Rattle.block.specs.declared.Class.the-variants.{C, D};
 ghost use Rattle.block.specs.declared.Edition.{Edition};
 ghost use Rattle.scrambler.specs.Scrambler.{descrambled, lineAfter};
@@ -397,6 +399,36 @@ fn idle_groups(line: &[u8], room: &mut [u8], start: Progress) -> Progress
 
 // ---- one block
 
+// A block that is decoded at once, eight low power idles of the newer edition too.
+fn at_once(edition: Edition, header: u64, payload: u64) -> QuickDecoded
+    ensures { λ r. ⌜ (r .there ≡ true → (r .class ≡ classOf edition header payload) × (vectorBytes (r .vector) ≡ decoded edition header payload) × (isError (kindIn (r .class)) ≡ false)) ⌝ }
+{
+    let q = quick(header, payload);
+    if q.there {
+        return q;
+    }
+    if payload == 0x0c183060c183061e {
+        if header == 1 {
+            match edition {
+                Edition::Old => {}
+                Edition::New => {
+                    return QuickDecoded {
+                        there: true,
+                        class: Class::LI,
+                        vector: Vector {
+                            c0: 15,
+                            c1: 15,
+                            d0: 0x06060606,
+                            d1: 0x06060606,
+                        },
+                    };
+                }
+            }
+        }
+    }
+    q
+}
+
 // One block more, if it is decoded at once: the block held is answered.
 fn single(line: &[u8], room: &mut [u8], p: Progress) -> Progress
     requires { ⌜ (length (now line) ≤ 825000) × Under (now line) (now room) p × InLock p × (p .pos < 8 * length (now line)) ⌝ }
@@ -404,12 +436,13 @@ fn single(line: &[u8], room: &mut [u8], p: Progress) -> Progress
 {
     let r = p.receiver;
     let link = r.link;
+    let edition = link.edition;
     let rate = link.rate;
     if p.pos / 8 + 10 <= line.len() {
         if rate.blocks + 1 < 19531 {
             let b = one_at(line, p.pos);
             let plain = descramble(b.payload, link.history);
-            let q = quick(b.header, plain.word);
+            let q = at_once(edition, b.header, plain.word);
             if q.there {
                 let class = q.class;
                 let vector = q.vector;

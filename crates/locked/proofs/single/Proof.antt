@@ -17,7 +17,7 @@ use Rattle.locked.proofs.single.Reads as reads
 use Rattle.locked.proofs.single.Lts as lts
 use Rattle.blocks.proofs.one_at.Reads as one-at-reads
 use Rattle.decoding.proofs.kind_in.Reads as kind-in-reads
-use Rattle.decoding.proofs.quick.Reads as quick-reads
+use Rattle.locked.proofs.at_once.Reads as at-once-reads
 use Rattle.diagrams.proofs.may_follow.Reads as may-follow-reads
 use Rattle.locked.proofs.general_step.Reads as general-step-reads
 use Rattle.scrambler.proofs.descramble.Reads as descramble-reads
@@ -39,8 +39,8 @@ descramble-requires : tie.Need-descramble-requires
 descramble-requires c κs = search needs
 
 -- src/locked.rt:391:17
-quick-requires : tie.Need-quick-requires
-quick-requires c κs = search needs
+at-once-requires : tie.Need-at-once-requires
+at-once-requires c κs = search needs
 
 -- src/locked.rt:395:39
 kind-in-requires : tie.Need-kind-in-requires
@@ -56,7 +56,7 @@ general-step-requires c κs =
     let line = now (c .before .before .before .before .before .before .before .before .before .before .before .before .before .before .before .before .before .args .line) in
     let p = c .before .before .before .before .before .before .before .before .before .before .before .before .before .before .before .before .before .args .p in
     let ed = p .receiver .link .edition in
-    let told = c .before .before .before .before .before .quick .ensures (c .before .before .before .before .if3 .taken) ed in
+    let told = c .before .before .before .before .before .at-once .ensures (c .before .before .before .before .if3 .taken) in
     let small : c .before .before .before .before .before .before .before .one-at .result .header < 4 = subst (λ (n : ℕ). n < 4) (sym (c .before .before .before .before .before .before .before .one-at .ensures .0)) (number-lt 2 (λ i. lineBit line (p .pos + i)) (λ i q. lineBit-lt line (p .pos + i))) in (
       c .before .before .before .before .before .before .before .before .before .before .before .before .before .before .before .before .before .pre .0,
       record {
@@ -65,7 +65,7 @@ general-step-requires c κs =
         here = omega (arith, c .before .before .before .before .before .before .before .before .before .before .if1 .taken);
         header = c .before .before .before .before .before .before .before .one-at .ensures .0;
         payload = c .before .before .before .before .before .before .before .one-at .ensures .1;
-        valid = good-valid ed (c .before .before .before .before .before .before .before .one-at .result .header) (c .before .before .before .before .before .before .descramble .result .word) (c .before .before .before .before .before .quick .result .class) small (told .0) (told .2);
+        valid = good-valid ed (c .before .before .before .before .before .before .before .one-at .result .header) (c .before .before .before .before .before .before .descramble .result .word) (c .before .before .before .before .before .at-once .result .class) small (told .0) (told .2);
         more = c .before .before .before .before .before .before .before .before .if2 .taken;
       },
       record {
@@ -107,7 +107,7 @@ single-spec =
     add-if2
     one-at-requires
     descramble-requires
-    quick-requires
+    at-once-requires
     kind-in-requires
     may-follow-requires
     general-step-requires
