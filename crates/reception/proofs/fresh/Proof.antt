@@ -1,4 +1,4 @@
--- `receiving::fresh` meets its contract. Assumes nothing.
+-- `reception::fresh` meets its contract. Assumes nothing.
 use mathlib.Core.Path.{refl}
 use Rattle.carrying.proofs.Laws.{bits-none, sound-none}
 use Rattle.receiving.specs.Loop.{feedIn, heldIn}

@@ -1,4 +1,4 @@
--- `receiving::receive` meets its contract. Each refusal by the test that led to it; else the rest is `receive_all`. Assumes nothing.
+-- `reception::receive` meets its contract. Each refusal by the test that led to it; else the rest is `receive_all`. Assumes nothing.
 use mathlib.Core.Path.{ap, _∙_}
 use mathlib.Core.List.{_++_}
 use borrow.Author.Needs.{needs}

@@ -1,4 +1,4 @@
--- `receiving::receive_all` meets its contract: the loop, and the block held at its end. Assumes nothing.
+-- `reception::receive_all` meets its contract: the loop, and the block held at its end. Assumes nothing.
 use mathlib.Core.Path.{_∙_}
 use native.Mathlib.Omega.{arith}
 use borrow.Author.Needs.{needs}

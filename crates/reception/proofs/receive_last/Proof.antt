@@ -1,4 +1,4 @@
--- `receiving::receive_last` meets its contract. Assumes nothing.
+-- `reception::receive_last` meets its contract. Assumes nothing.
 use mathlib.Core.Path.{_≡_, ap, _∙_}
 use mathlib.Core.Bool.{Bool, true, false, cond}
 use borrow.Author.Needs.{needs}

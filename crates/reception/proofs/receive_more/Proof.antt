@@ -1,4 +1,4 @@
--- `receiving::receive_more` meets its contract. The loop's invariant: what comes of the receiver, its room and its counts from here is what comes of them from the start. Assumes nothing.
+-- `reception::receive_more` meets its contract. The loop's invariant: what comes of the receiver, its room and its counts from here is what comes of them from the start. Assumes nothing.
 use native.Mathlib.Omega.{arith}
 use Prim.Native.Nat.{_*_, _-_}
 use borrow.Author.Needs.{needs}
