@@ -1,5 +1,5 @@
 // Blocks while not locked: their headers are tested, and each is answered as Local Fault. What is counted wants to know of a control block that
-// its type is none, or that it is decoded at once and so not bad. No branch hangs on a header. What is left stands with `turn`.
+// its type is none, or that it is decoded at once and so not bad. A slip takes no branch of its own. What is left stands with `turn`.
 use blocks::one_at;
 use decoding::Vector;
 use decoding::quick;
