@@ -1,25 +1,25 @@
 -- Blocks while not locked. Assumes nothing.
-use Prim.Native.Nat.{ℕ, _+_, _-_, _*_, _/_, _%_, _^_, _≤_, _<_}
+use Prim.Native.Nat.{ℕ, _+_, _-_, _*_, _/_, _%_, _≤_, _<_}
 use mathlib.Core.Path.{_≡_, refl, sym, ap, ap₂, _∙_, subst, subst₂}
-use mathlib.Core.Bool.{Bool, true, false, cond, not, _&&_, _||_}
+use mathlib.Core.Bool.{Bool, true, false, cond, not, _&&_}
 use mathlib.Core.List.{List, [], _∷_, _++_}
 use native.Mathlib.Omega.{arith}
 use native.Mathlib.Nat.{add-zero, add-assoc, mul-zero, zero-mul}
-use lib.Dec.{T, leb, eqb}
+use lib.Dec.{T, eqb}
 use lib.ListN.{length, getD, take, drop, length-drop}
 use lib.Seq.{length-take-le}
 use borrow.Author.Tests.{lt-leb, ne-eqb}
-use Rattle.bits.specs.Bits.{bit, number, lineBit, lineBits}
+use Rattle.bits.specs.Bits.{bit, lineBit, lineBits}
 use Rattle.bits.proofs.Laws.{by-lt, number-lt}
 use Rattle.bits.proofs.Lists.{lineBit-lt, length-lineBits}
-use Rattle.block.specs.Block.{twoWords, localFaultVector, errorVector, decoded, classOf, kindIn, isError}
+use Rattle.block.specs.Block.{localFaultVector, decoded, classOf, kindIn, isError}
 use Rattle.block.specs.Rows.{rowOf}
 use Rattle.block.specs.declared.Edition.{Edition}
 use Rattle.block.specs.declared.Class.{Class}
 use Rattle.block.specs.declared.Class.the-variants as Class
 use Rattle.block.specs.declared.Reason.the-variants.{Header, BlockType}
 use Rattle.scrambler.specs.Scrambler.{descrambled, lineAfter}
-use Rattle.carrying.specs.Carrying.{carriedBits, Takes}
+use Rattle.carrying.specs.Carrying.{Takes}
 use Rattle.carrying.specs.declared.Taken.{Taken}
 use Rattle.carrying.proofs.Laws.{bits-none, takes-skip}
 use Rattle.tables.specs.Tables.{types}
@@ -35,11 +35,10 @@ use Rattle.diagrams.specs.declared.Rate.{Rate}
 use Rattle.diagrams.specs.declared.State.{State}
 use Rattle.diagrams.specs.declared.State.the-variants.{Init}
 use Rattle.blocks.specs.Blocks.{headerAt, payloadAt}
-use Rattle.receiving.specs.Machine.{Feed, Run, Tested, run, linkOf, testedOf, validOf, headerOf, payloadOf}
+use Rattle.receiving.specs.Machine.{Run, Tested, run, linkOf, testedOf, validOf, headerOf, payloadOf}
 use Rattle.receiving.specs.Receive.{letsEnd, stateOf, answerIn, countsOf, handedOf}
 use Rattle.receiving.specs.Parts.{plus, plusHanded, settle, bytesOf}
-use Rattle.receiving.specs.Counted.{counted, reasoned, handOut}
-use Rattle.receiving.specs.Ranges.{InRange}
+use Rattle.receiving.specs.Counted.{counted, handOut}
 use Rattle.receiving.specs.Loop.{testedIn, heldIn, feedIn, Outcome, outcomeOf, outcome, Under, Turns, heldState, heldBytes, heldHanded}
 use Rattle.hunting.specs.Unlocked.{Hunts, foundOf, missOf, controlOf, untypedOf, Tests}
 use Rattle.receiving.specs.declared.Link.{Link}
@@ -51,8 +50,8 @@ use Rattle.hunting.specs.declared.Search.{Search}
 use Rattle.receiving.proofs.Runs.{after}
 use Rattle.receiving.proofs.Counted.{free, one-header, one-type, counted-is, oneMore, out-init}
 use Rattle.receiving.proofs.Settle.{held-put, held-ten, settle-bytes, settle-handed, settle-state, settle-held}
-use Rattle.receiving.proofs.Turning.{feedOf, fill-run, waited, turn-wait, moved, turn-block, held-fits, outcome-same}
-use Rattle.receiving.proofs.Stretching.{never, whole, whole-taken, carried-none, turns-more}
+use Rattle.receiving.proofs.Turning.{feedOf, fill-run, turn-wait, moved, turn-block, held-fits, outcome-same}
+use Rattle.receiving.proofs.Stretching.{whole, whole-taken, carried-none, turns-more}
 
 -- ---- a block held that was not tested in lock is answered as Local Fault, whichever it is
 

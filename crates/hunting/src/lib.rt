@@ -5,7 +5,6 @@ use decoding::Vector;
 use decoding::quick;
 use diagrams::Lock;
 use diagrams::State;
-use line::Block;
 use receiving::Counts;
 use receiving::Link;
 use receiving::Progress;

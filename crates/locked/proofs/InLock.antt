@@ -1,14 +1,13 @@
 -- Blocks with valid headers in lock, and stretches of them. Assumes nothing.
-use Prim.Native.Nat.{ℕ, _+_, _-_, _*_, _/_, _%_, _^_, _≤_, _<_}
+use Prim.Native.Nat.{ℕ, _+_, _-_, _*_, _/_, _%_, _≤_, _<_}
 use mathlib.Core.Path.{_≡_, refl, sym, ap, ap₂, _∙_, subst}
-use mathlib.Core.Bool.{Bool, true, false, cond, not, _&&_, false≢true}
+use mathlib.Core.Bool.{Bool, true, false, cond, not, _&&_}
 use mathlib.Core.Logic.{_≢_}
-use mathlib.Core.List.{List, [], _∷_, _++_}
+use mathlib.Core.List.{List, _++_}
 use native.Mathlib.Omega.{arith}
 use native.Mathlib.Nat.{add-zero}
 use lib.Dec.{T, ltb}
 use lib.ListN.{length, take, drop}
-use lib.Seq.{drop-drop}
 use borrow.Author.Tests.{ltb-true}
 use Rattle.bits.specs.Bits.{bit, number, lineBit, lineBits}
 use Rattle.bits.proofs.Laws.{by-lt, number-lt}
@@ -22,16 +21,13 @@ use Rattle.block.specs.declared.Kind.the-variants as Kind
 use Rattle.block.specs.declared.Class.{Class}
 use Rattle.block.specs.declared.Class.the-variants as Class
 use Rattle.scrambler.specs.Scrambler.{descrambled, lineAfter}
-use Rattle.carrying.specs.Carrying.{Sound, Takes}
-use Rattle.carrying.specs.declared.Carried.{Carried}
+use Rattle.carrying.specs.Carrying.{Takes}
 use Rattle.carrying.specs.declared.Taken.{Taken}
-use Rattle.carrying.proofs.Laws.{takes-whole}
 use Rattle.decoding.specs.Vector.{vectorBytes}
 use Rattle.decoding.specs.declared.Vector.{Vector}
 use Rattle.diagrams.specs.Lock.{lockOf, slipsOf}
 use Rattle.diagrams.specs.Rate.{rateOf}
 use Rattle.diagrams.specs.Diagram.{diagramOf, afterIdle, afterData, afterError, afterLow, stateNumber, follows}
-use Rattle.diagrams.specs.declared.Lock.{Lock}
 use Rattle.diagrams.specs.declared.Rate.{Rate}
 use Rattle.diagrams.specs.declared.State.{State}
 use Rattle.diagrams.specs.declared.State.the-variants.{Init, Control, Data, Terminate, Error, LowPower}
@@ -39,20 +35,18 @@ use Rattle.diagrams.proofs.InLock.{lock-stays, no-slip, rate-valid}
 use Rattle.blocks.specs.Blocks.{headerAt, payloadAt, headersAt, Fours}
 use Rattle.blocks.specs.declared.Four.{Four}
 use Rattle.blocks.proofs.Unique.{four-at-unique}
-use Rattle.receiving.specs.Machine.{Tested, linkOf, testedOf, validOf}
+use Rattle.receiving.specs.Machine.{linkOf, testedOf, validOf}
 use Rattle.receiving.specs.Receive.{letsEnd, stateOf, answerIn, decodes, errs}
-use Rattle.receiving.specs.Counted.{counted, reasoned, handOut, decodedOut, HandedWithin}
-use Rattle.receiving.specs.Ranges.{InRange}
-use Rattle.receiving.specs.Loop.{testedIn, outcome, Under, Turns, heldState, heldBytes, heldHanded, Stretches}
+use Rattle.receiving.specs.Counted.{counted, handOut, decodedOut}
+use Rattle.receiving.specs.Loop.{testedIn, Under, Turns, heldBytes}
 use Rattle.locked.specs.InLock.{InLock, GoesTo, Comes, Is, advancedOf, Steps, StepsFour, AllIdle}
 use Rattle.receiving.specs.declared.Link.{Link}
 use Rattle.receiving.specs.declared.Held.{Held}
-use Rattle.receiving.specs.declared.Counts.{Counts}
 use Rattle.receiving.specs.declared.Handed.{Handed}
 use Rattle.receiving.specs.declared.Progress.{Progress}
-use Rattle.receiving.proofs.Counted.{free, counted-is, oneMore, out-decoded, handed-wide}
+use Rattle.receiving.proofs.Counted.{free, counted-is, oneMore, out-decoded}
 use Rattle.receiving.proofs.Settle.{as-decoded, held-put, held-ten}
-use Rattle.receiving.proofs.Turning.{moved, turn-block, held-fits}
+use Rattle.receiving.proofs.Turning.{turn-block, held-fits}
 use Rattle.receiving.proofs.Stretching.{never, whole, whole-taken, turns-more}
 
 -- ---- where a block that is held goes

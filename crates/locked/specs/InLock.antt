@@ -2,8 +2,8 @@
 use mathlib.Core.Path.{_≡_}
 use mathlib.Core.Bool.{Bool, true, false}
 use mathlib.Core.List.{List}
-use Prim.Native.Nat.{ℕ, _+_, _*_, _≤_, _<_}
-use lib.ListN.{length, drop}
+use Prim.Native.Nat.{ℕ, _+_, _*_, _<_}
+use lib.ListN.{length}
 use Rattle.block.specs.Block.{decoded, classOf, kindIn, isError}
 use Rattle.block.specs.declared.Class.{Class}
 use Rattle.scrambler.specs.Scrambler.{descrambled, lineAfter}
@@ -16,7 +16,7 @@ use Rattle.diagrams.specs.declared.State.{State}
 use Rattle.blocks.specs.Blocks.{headerAt, payloadAt}
 use Rattle.blocks.specs.declared.Four.{Four}
 use Rattle.receiving.specs.Machine.{validOf}
-use Rattle.receiving.specs.Loop.{outcome, Under, Turns}
+use Rattle.receiving.specs.Loop.{Under, Turns}
 use Rattle.receiving.specs.declared.Handed.{Handed}
 use Rattle.receiving.specs.declared.Progress.{Progress}
 

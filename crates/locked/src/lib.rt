@@ -25,7 +25,7 @@ use receiving::counting::count_vector;
 use scrambler::descramble;
 use vectors::put_vector;
 ghost use mathlib.Core.Path.{_≡_};
-ghost use mathlib.Core.Bool.{Bool, true, false};
+ghost use mathlib.Core.Bool.{true, false};
 ghost use Prim.Native.Nat.{_+_, _*_, _/_, _%_, _^_, _≤_, _<_};
 ghost use lib.ListN.{length};
 ghost use Rattle.block.specs.Block.{decoded, classOf, kindIn, isError};

@@ -12,7 +12,7 @@ use Rattle.carrying.specs.Carrying.{Sound, Takes}
 use Rattle.carrying.specs.declared.Carried.{Carried}
 use Rattle.carrying.specs.declared.Taken.{Taken}
 use Rattle.carrying.proofs.Laws.{takes-whole}
-use Rattle.receiving.specs.Loop.{outcome, Under, Turns, Stretches}
+use Rattle.receiving.specs.Loop.{Under, Turns, Stretches}
 use Rattle.receiving.specs.declared.Progress.{Progress}
 use Rattle.receiving.proofs.Turning.{Looping}
 

@@ -3,132 +3,97 @@ use Rattle.blocks.proofs.Laws.{fours}
 use borrow.Author.Needs.{needs}
 use Rattle.blocks.proofs.four_at.Statement.{statement}
 use Rattle.blocks.proofs.four_at.Tie as tie
-use Rattle.blocks.proofs.four_at.Reads as reads
-use Rattle.blocks.proofs.four_at.Lts as lts
-use Rattle.blocks.proofs.load_two.Reads as load-two-reads
-use Rattle.line.proofs.load.Reads as load-reads
 
--- src/lib.rt:50:13
 load-requires : tie.Need-load-requires
 load-requires c κs = search needs
 
--- src/lib.rt:50:13
 shr-w : tie.Need-shr-w
 shr-w c = search needs
 
--- src/lib.rt:51:21
 add-load : tie.Need-add-load
 add-load c = search needs
 
--- src/lib.rt:51:9
 load-requires-2 : tie.Need-load-requires-2
 load-requires-2 c κs = search needs
 
--- src/lib.rt:52:21
 add-load-2 : tie.Need-add-load-2
 add-load-2 c = search needs
 
--- src/lib.rt:52:9
 load-requires-3 : tie.Need-load-requires-3
 load-requires-3 c κs = search needs
 
--- src/lib.rt:53:21
 add-load-3 : tie.Need-add-load-3
 add-load-3 c = search needs
 
--- src/lib.rt:53:9
 load-requires-4 : tie.Need-load-requires-4
 load-requires-4 c κs = search needs
 
--- src/lib.rt:54:28
 add-load-two : tie.Need-add-load-two
 add-load-two c = search needs
 
--- src/lib.rt:54:9
 load-two-requires : tie.Need-load-two-requires
 load-two-requires c κs = search needs
 
--- src/lib.rt:55:19
 add-b : tie.Need-add-b
 add-b c = search needs
 
--- src/lib.rt:55:13
 shr-b : tie.Need-shr-b
 shr-b c = search needs
 
--- src/lib.rt:56:19
 add-c : tie.Need-add-c
 add-c c = search needs
 
--- src/lib.rt:56:13
 shr-c : tie.Need-shr-c
 shr-c c = search needs
 
--- src/lib.rt:57:19
 add-d : tie.Need-add-d
 add-d c = search needs
 
--- src/lib.rt:57:13
 shr-d : tie.Need-shr-d
 shr-d c = search needs
 
--- src/lib.rt:59:26
 mul-t15 : tie.Need-mul-t15
 mul-t15 c = search needs
 
--- src/lib.rt:59:18
 add-t16 : tie.Need-add-t16
 add-t16 c = search needs
 
--- src/lib.rt:59:38
 mul-t18 : tie.Need-mul-t18
 mul-t18 c = search needs
 
--- src/lib.rt:59:18
 add-t19 : tie.Need-add-t19
 add-t19 c = search needs
 
--- src/lib.rt:59:51
 mul-t21 : tie.Need-mul-t21
 mul-t21 c = search needs
 
--- src/lib.rt:59:18
 add-t22 : tie.Need-add-t22
 add-t22 c = search needs
 
--- src/lib.rt:60:30
 sub-t14 : tie.Need-sub-t14
 sub-t14 c = search needs
 
--- src/lib.rt:60:24
 shl-t25 : tie.Need-shl-t25
 shl-t25 c = search needs
 
--- src/lib.rt:61:30
 sub-t28 : tie.Need-sub-t28
 sub-t28 c = search needs
 
--- src/lib.rt:61:24
 shl-t30 : tie.Need-shl-t30
 shl-t30 c = search needs
 
--- src/lib.rt:62:30
 sub-t33 : tie.Need-sub-t33
 sub-t33 c = search needs
 
--- src/lib.rt:62:24
 shl-t35 : tie.Need-shl-t35
 shl-t35 c = search needs
 
--- src/lib.rt:63:33
 sub-t38 : tie.Need-sub-t38
 sub-t38 c = search needs
 
--- src/lib.rt:63:24
 shl-t40 : tie.Need-shl-t40
 shl-t40 c = search needs
 
--- src/lib.rt:46:1
 returns : tie.Need-returns
 returns c =
     fours (now (c .before .before .before .before .before .before .args .s)) (c .before .before .before .before .before .before .args .at) (c .before .before .before .before .before .before .args .sh) (c .before .before .before .before .load .result) (c .before .before .before .load2 .result) (c .before .before .load3 .result) (c .before .load4 .result) (c .load-two .result) (c .before .before .before .before .before .before .pre .1)

@@ -3,9 +3,6 @@ use Rattle.blocks.proofs.Laws.{two-bytes}
 use borrow.Author.Needs.{needs}
 use Rattle.blocks.proofs.load_two.Statement.{statement}
 use Rattle.blocks.proofs.load_two.Tie as tie
-use Rattle.blocks.proofs.load_two.Reads as reads
-use Rattle.blocks.proofs.load_two.Lts as lts
-use Rattle.line.proofs.wide.Reads as wide-reads
 
 shared-slice-read-wide : tie.Need-shared-slice-read-wide
 shared-slice-read-wide c = search needs

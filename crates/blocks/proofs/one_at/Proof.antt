@@ -3,48 +3,34 @@ use Rattle.blocks.proofs.Laws.{one-header, one-payload}
 use borrow.Author.Needs.{needs}
 use Rattle.blocks.proofs.one_at.Statement.{statement}
 use Rattle.blocks.proofs.one_at.Tie as tie
-use Rattle.blocks.proofs.one_at.Reads as reads
-use Rattle.blocks.proofs.one_at.Lts as lts
-use Rattle.blocks.proofs.load_two.Reads as load-two-reads
-use Rattle.line.proofs.load.Reads as load-reads
 
--- src/lib.rt:35:9
 load-two-requires : tie.Need-load-two-requires
 load-two-requires c κs = search needs
 
--- src/lib.rt:36:9
 load-requires : tie.Need-load-requires
 load-requires c κs = search needs
 
--- src/lib.rt:37:28
 add-load-two : tie.Need-add-load-two
 add-load-two c = search needs
 
--- src/lib.rt:37:9
 load-two-requires-2 : tie.Need-load-two-requires-2
 load-two-requires-2 c κs = search needs
 
--- src/lib.rt:39:18
 shr-t10 : tie.Need-shr-t10
 shr-t10 c = search needs
 
--- src/lib.rt:40:25
 add-t8 : tie.Need-add-t8
 add-t8 c = search needs
 
--- src/lib.rt:40:19
 shr-t13 : tie.Need-shr-t13
 shr-t13 c = search needs
 
--- src/lib.rt:40:46
 sub-t14 : tie.Need-sub-t14
 sub-t14 c = search needs
 
--- src/lib.rt:40:37
 shl-t16 : tie.Need-shl-t16
 shl-t16 c = search needs
 
--- src/lib.rt:29:1
 returns : tie.Need-returns
 returns c =
     let s = now (c .before .before .before .before .args .s) in (

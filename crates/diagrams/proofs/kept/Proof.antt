@@ -3,14 +3,10 @@ use native.Mathlib.Omega.{arith}
 use borrow.Author.Tests.{lt-leb, le-leb}
 use Rattle.diagrams.proofs.kept.Statement.{statement}
 use Rattle.diagrams.proofs.kept.Tie as tie
-use Rattle.diagrams.proofs.kept.Reads as reads
-use Rattle.diagrams.proofs.kept.Lts as lts
 
--- src/lib.rt:165:1
 returns : tie.Need-returns
 returns c = rw (lt-leb 64 (c .before .before .args .l .tested + 1) (omega arith))
 
--- src/lib.rt:165:1
 returns-2 : tie.Need-returns-2
 returns-2 c = rw (le-leb 64 (c .before .before .args .l .tested + 1) (omega arith))
 

@@ -2,14 +2,10 @@ use Rattle.diagrams.proofs.InLock.{rate-valid}
 use borrow.Author.Needs.{needs}
 use Rattle.diagrams.proofs.rate_valid.Statement.{statement}
 use Rattle.diagrams.proofs.rate_valid.Tie as tie
-use Rattle.diagrams.proofs.rate_valid.Reads as reads
-use Rattle.diagrams.proofs.rate_valid.Lts as lts
 
--- src/lib.rt:189:17
 add-t2 : tie.Need-add-t2
 add-t2 c = search needs
 
--- src/lib.rt:184:1
 returns : tie.Need-returns
 returns c = rate-valid (c .before .args .r) (c .before .pre .0) (c .before .pre .1) (c .before .pre .2)
 

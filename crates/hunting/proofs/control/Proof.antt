@@ -5,18 +5,13 @@ use Rattle.hunting.proofs.Unlocked.{times-le}
 use borrow.Author.Needs.{needs}
 use Rattle.hunting.proofs.control.Statement.{statement}
 use Rattle.hunting.proofs.control.Tie as tie
-use Rattle.hunting.proofs.control.Reads as reads
-use Rattle.hunting.proofs.control.Lts as lts
 
--- src/hunting.rt:113:19
 sub-result : tie.Need-sub-result
 sub-result c = search needs
 
--- src/hunting.rt:113:5
 mul-result : tie.Need-mul-result
 mul-result c = search (needs, times-le (c .args .header % 2) (1 - c .args .header / 2) (omega arith))
 
--- src/hunting.rt:109:1
 returns : tie.Need-returns
 returns c = (refl, omega (arith, times-le (c .args .header % 2) (1 - c .args .header / 2) (omega arith)))
 

@@ -1,27 +1,19 @@
-use native.Mathlib.Omega.{arith}
 use borrow.Author.Needs.{needs}
 use Rattle.hunting.proofs.found.Statement.{statement}
 use Rattle.hunting.proofs.found.Tie as tie
-use Rattle.hunting.proofs.found.Reads as reads
-use Rattle.hunting.proofs.found.Lts as lts
 
--- src/hunting.rt:166:21
 add-t18 : tie.Need-add-t18
 add-t18 c = search needs
 
--- src/hunting.rt:167:20
 add-t19 : tie.Need-add-t19
 add-t19 c = search needs
 
--- src/hunting.rt:168:22
 add-t20 : tie.Need-add-t20
 add-t20 c = search needs
 
--- src/hunting.rt:169:20
 add-t21 : tie.Need-add-t21
 add-t21 c = search (needs, c .before .before .before .before .before .before .before .before .before .before .before .before .before .before .before .before .pre .3)
 
--- src/hunting.rt:129:1
 returns : tie.Need-returns
 returns c = search needs
 

@@ -7,22 +7,13 @@ use Rattle.receiving.specs.declared.Progress.{Progress}
 use borrow.Author.Needs.{needs}
 use Rattle.hunting.proofs.hunt.Statement.{statement}
 use Rattle.hunting.proofs.hunt.Tie as tie
-use Rattle.hunting.proofs.hunt.Reads as reads
-use Rattle.hunting.proofs.hunt.Lts as lts
-use Rattle.hunting.proofs.found.Reads as found-reads
-use Rattle.hunting.proofs.hunt_blocks.Reads as hunt-blocks-reads
-use Rattle.hunting.proofs.hunts.Reads as hunts-reads
-use Rattle.hunting.proofs.searching.Reads as searching-reads
 
--- src/hunting.rt:249:8
 hunts-requires : tie.Need-hunts-requires
 hunts-requires c κs = search needs
 
--- src/hunting.rt:250:44
 searching-requires : tie.Need-searching-requires
 searching-requires c κs = search needs
 
--- src/hunting.rt:250:13
 hunt-blocks-requires : tie.Need-hunt-blocks-requires
 hunt-blocks-requires c κs = (
   c .before .before .before .before .before .before .pre .0,
@@ -31,19 +22,15 @@ hunt-blocks-requires c κs = (
   subst (λ (n : ℕ). n < 8 * length (now (c .before .before .before .before .before .before .args .line))) (sym (ap (λ (z : Progress). z .pos) (c .searching .ensures))) (c .before .before .before .before .before .before .pre .2),
 )
 
--- src/hunting.rt:251:9
 found-requires : tie.Need-found-requires
 found-requires c κs = search needs
 
--- src/hunting.rt:251:9
 same-length : tie.Need-same-length
 same-length c = search needs
 
--- src/hunting.rt:251:9
 returns : tie.Need-returns
 returns c = subst₂ (Stretches (now (c .before .before .before .before .before .before .before .before .before .before .args .line)) (now (c .before .before .before .before .before .before .before .before .before .before .args .room)) (c .before .before .before .hunt-blocks .last .1 .0)) (c .before .before .before .before .searching .ensures) (sym (c .found .ensures)) (c .before .before .before .hunt-blocks .ensures)
 
--- src/hunting.rt:245:1
 returns-2 : tie.Need-returns-2
 returns-2 c = search needs
 

@@ -7,10 +7,6 @@ use Rattle.hunting.specs.Unlocked.{foundOf}
 use Rattle.receiving.proofs.Stretching.{stretch-first, stretch-more, stretch-turn}
 use Rattle.hunting.proofs.hunt_blocks.Statement.{statement}
 use Rattle.hunting.proofs.hunt_blocks.Tie as tie
-use Rattle.hunting.proofs.hunt_blocks.Reads as reads
-use Rattle.hunting.proofs.hunt_blocks.Lts as lts
-use Rattle.hunting.proofs.hunt_step.Reads as hunt-step-reads
-use Rattle.hunting.proofs.hunts_on.Reads as hunts-on-reads
 
 abbrev Inv-loop : tie.InvT-loop
 Inv-loop line room₀ p s₀ room s = Stretches line room₀ room (foundOf p s₀) (foundOf p s)
@@ -18,23 +14,18 @@ Inv-loop line room₀ p s₀ room s = Stretches line room₀ room (foundOf p s�
 abbrev μ-loop : tie.MeasureT-loop
 μ-loop line room₀ p s₀ room s = 8 * length line - s .pos
 
--- src/hunting.rt:220:5
 loop-holds : tie.Need-loop-holds Inv-loop μ-loop
 loop-holds c = stretch-first (now (c .before .before .args .line)) (now (c .before .before .args .room)) (foundOf (c .before .before .args .p) (c .before .before .args .start)) (c .before .before .pre .2) (c .before .before .pre .3)
 
--- src/hunting.rt:220:11
 hunts-on-requires : tie.Need-hunts-on-requires Inv-loop μ-loop
 hunts-on-requires c κs = (c .before .before .before .pre .0, c .loop .inv .under .range .history)
 
--- src/hunting.rt:221:9
 hunt-step-requires : tie.Need-hunt-step-requires Inv-loop μ-loop
 hunt-step-requires c κs = let h = c .before .before .hunts-on .ensures (c .before .if1 .taken) in (c .before .before .before .before .before .before .pre .0, c .before .before .before .before .before .before .pre .1, c .before .before .before .loop .inv .under, h .0, h .1, h .2)
 
--- src/hunting.rt:220:5
 loop-less : tie.Need-loop-less Inv-loop μ-loop
 loop-less c = omega (arith, c .before .before .hunt-step .ensures .0 .past, c .before .before .before .before .before .before .loop .inv .ends)
 
--- src/hunting.rt:220:5
 loop-again : tie.Need-loop-again Inv-loop μ-loop
 loop-again c =
     let line = now (c .before .before .before .before .before .before .before .before .before .args .line) in
@@ -42,11 +33,9 @@ loop-again c =
     stretch-more line (now (c .before .before .before .before .before .before .before .before .before .args .room)) (c .before .before .before .before .before .before .loop .room) (c .before .before .hunt-step .last .1 .0) (foundOf p (c .before .before .before .before .before .before .before .before .before .args .start)) (foundOf p (c .before .before .before .before .before .before .loop .s)) (foundOf p (c .before .before .hunt-step .result)) (c .before .before .before .before .before .before .loop .inv)
     (stretch-turn line (c .before .before .before .before .before .before .loop .room) (c .before .before .hunt-step .last .1 .0) (foundOf p (c .before .before .before .before .before .before .loop .s)) (foundOf p (c .before .before .hunt-step .result)) (c .before .before .hunt-step .ensures .0) (c .before .before .hunt-step .ensures .1))
 
--- src/hunting.rt:215:1
 same-length : tie.Need-same-length Inv-loop μ-loop
 same-length c = c .before .before .loop .inv .len
 
--- src/hunting.rt:215:1
 returns : tie.Need-returns Inv-loop μ-loop
 returns c = c .before .before .loop .inv
 

@@ -1,7 +1,7 @@
 use native.Mathlib.Omega.{arith}
 use denote.Ref.{now}
 use mathlib.Core.Path.{sym, ap, _∙_, subst}
-use Prim.Native.Nat.{ℕ, _+_, _-_, _*_, _%_, _<_}
+use Prim.Native.Nat.{ℕ, _+_, _-_, _%_, _<_}
 use lib.ListN.{getD}
 use Rattle.bits.specs.Bits.{lineBit}
 use Rattle.bits.proofs.Laws.{number-lt}
@@ -12,85 +12,58 @@ use Rattle.hunting.proofs.Unlocked.{le-times, hunt-turn, hunt-room}
 use borrow.Author.Needs.{needs}
 use Rattle.hunting.proofs.hunt_step.Statement.{statement}
 use Rattle.hunting.proofs.hunt_step.Tie as tie
-use Rattle.hunting.proofs.hunt_step.Reads as reads
-use Rattle.hunting.proofs.hunt_step.Lts as lts
-use Rattle.blocks.proofs.one_at.Reads as one-at-reads
-use Rattle.hunting.proofs.local_fault.Reads as local-fault-reads
-use Rattle.hunting.proofs.miss.Reads as miss-reads
-use Rattle.hunting.proofs.untyped.Reads as untyped-reads
-use Rattle.scrambler.proofs.descramble.Reads as descramble-reads
-use Rattle.tables.proofs.type_row.Reads as type-row-reads
-use Rattle.vectors.proofs.put_vector.Reads as put-vector-reads
 
--- src/lib.rt:210:15
 add-end : tie.Need-add-end
 add-end c = search (needs, hunt-room (now (c .before .before .before .args .line)) (now (c .before .before .before .args .room)) (c .before .before .before .args .p) (c .before .before .before .args .s) (c .before .before .before .pre .1) (c .before .before .before .pre .2) (c .before .before .before .pre .3) (c .before .before .before .pre .4) (c .before .before .before .pre .5))
 
--- src/lib.rt:211:9
 one-at-requires : tie.Need-one-at-requires
 one-at-requires c κs = search needs
 
--- src/lib.rt:212:9
 descramble-requires : tie.Need-descramble-requires
 descramble-requires c κs = search needs
 
--- src/lib.rt:213:9
 type-row-requires : tie.Need-type-row-requires
 type-row-requires c κs = search needs
 
--- src/lib.rt:214:9
 miss-requires : tie.Need-miss-requires
 miss-requires c κs = subst (λ (n : ℕ). n < 4) (sym (c .before .before .before .one-at .ensures .0)) (number-lt 2 (λ i. lineBit (now (c .before .before .before .before .before .before .before .args .line)) (c .before .before .before .before .before .before .before .args .s .pos + i)) (λ i q. lineBit-lt (now (c .before .before .before .before .before .before .before .args .line)) (c .before .before .before .before .before .before .before .args .s .pos + i)))
 
--- src/lib.rt:215:28
 local-fault-requires : tie.Need-local-fault-requires
 local-fault-requires c κs = search needs
 
--- src/lib.rt:215:5
 put-vector-requires : tie.Need-put-vector-requires
 put-vector-requires c κs = hunt-room (now (c .before .before .before .before .before .before .before .before .before .before .args .line)) (now (c .before .before .before .before .before .before .before .before .before .before .args .room)) (c .before .before .before .before .before .before .before .before .before .before .args .p) (c .before .before .before .before .before .before .before .before .before .before .args .s) (c .before .before .before .before .before .before .before .before .before .before .pre .1) (c .before .before .before .before .before .before .before .before .before .before .pre .2) (c .before .before .before .before .before .before .before .before .before .before .pre .3) (c .before .before .before .before .before .before .before .before .before .before .pre .4) (c .before .before .before .before .before .before .before .before .before .before .pre .5)
 
--- src/lib.rt:217:14
 add-t15 : tie.Need-add-t15
 add-t15 c = search needs
 
--- src/lib.rt:217:14
 add-t17 : tie.Need-add-t17
 add-t17 c = search needs
 
--- src/lib.rt:220:18
 add-t10 : tie.Need-add-t10
 add-t10 c = search needs
 
--- src/lib.rt:220:35
 sub-t18 : tie.Need-sub-t18
 sub-t18 c = search needs
 
--- src/lib.rt:220:17
 mul-t19 : tie.Need-mul-t19
 mul-t19 c = search (needs, c .before .before .before .before .before .before .before .before .before .before .before .before .before .before .before .pre .4, le-times (c .before .before .before .before .before .before .before .before .before .before .before .before .before .before .before .args .s .tested + 1) (1 - c .before .before .before .before .before .before .before .miss .result) (omega arith))
 
--- src/lib.rt:221:17
 add-t20 : tie.Need-add-t20
 add-t20 c = search (needs, c .before .before .before .before .before .before .before .before .miss .ensures .1, c .before .before .before .before .before .before .before .before .before .before .before .before .before .before .before .before .pre .0, c .before .before .before .before .before .before .before .before .before .before .before .before .before .before .before .before .pre .2 .pos, c .before .before .before .before .before .before .before .before .before .before .before .before .before .before .before .before .pre .2 .counts .slips)
 
--- src/lib.rt:222:26
 untyped-requires : tie.Need-untyped-requires
 untyped-requires c κs = subst (λ (n : ℕ). n < 4) (sym (c .before .before .before .before .before .before .before .before .before .before .before .before .one-at .ensures .0)) (number-lt 2 (λ i. lineBit (now (c .before .before .before .before .before .before .before .before .before .before .before .before .before .before .before .before .args .line)) (c .before .before .before .before .before .before .before .before .before .before .before .before .before .before .before .before .args .s .pos + i)) (λ i q. lineBit-lt (now (c .before .before .before .before .before .before .before .before .before .before .before .before .before .before .before .before .args .line)) (c .before .before .before .before .before .before .before .before .before .before .before .before .before .before .before .before .args .s .pos + i)))
 
--- src/lib.rt:222:16
 add-t22 : tie.Need-add-t22
 add-t22 c = search (needs, c .before .untyped .ensures .1, c .before .before .before .before .before .before .before .before .before .before .before .before .before .before .before .before .before .before .pre .0, c .before .before .before .before .before .before .before .before .before .before .before .before .before .before .before .before .before .before .pre .2 .pos, c .before .before .before .before .before .before .before .before .before .before .before .before .before .before .before .before .before .before .pre .2 .counts .types)
 
--- src/lib.rt:223:16
 add-t23 : tie.Need-add-t23
 add-t23 c = search (needs, c .before .before .before .before .before .before .before .before .before .before .before .before .before .before .before .before .before .before .before .pre .0, c .before .before .before .before .before .before .before .before .before .before .before .before .before .before .before .before .before .before .before .pre .2 .pos, c .before .before .before .before .before .before .before .before .before .before .before .before .before .before .before .before .before .before .before .pre .2 .counts .tested)
 
--- src/lib.rt:206:1
 same-length : tie.Need-same-length
 same-length c = search needs
 
--- src/lib.rt:206:1
 returns : tie.Need-returns
 returns c = (
   hunt-turn (now (c .before .before .before .before .before .before .before .before .before .before .before .before .before .before .before .before .before .before .before .args .line)) (now (c .before .before .before .before .before .before .before .before .before .before .before .before .before .before .before .before .before .before .before .args .room)) (c .before .before .before .before .before .before .before .before .before .before .before .before .before .before .before .before .before .before .before .args .p) (c .before .before .before .before .before .before .before .before .before .before .before .before .before .before .before .before .before .before .before .args .s) (c .before .before .before .before .before .before .before .before .before .before .before .before .before .before .before .before .before .before .before .pre .1) (c .before .before .before .before .before .before .before .before .before .before .before .before .before .before .before .before .before .before .before .pre .2) (c .before .before .before .before .before .before .before .before .before .before .before .before .before .before .before .one-at .result .header) (c .before .before .before .before .before .before .before .before .before .before .before .before .before .before .before .one-at .result .payload)

@@ -3,40 +3,28 @@ use Rattle.receiving.proofs.Stretching.{never}
 use borrow.Author.Needs.{needs}
 use Rattle.hunting.proofs.hunts.Statement.{statement}
 use Rattle.hunting.proofs.hunts.Tie as tie
-use Rattle.hunting.proofs.hunts.Reads as reads
-use Rattle.hunting.proofs.hunts.Lts as lts
-use Rattle.hunting.proofs.is_init.Reads as is-init-reads
-use Rattle.hunting.proofs.no_window.Reads as no-window-reads
 
--- src/hunting.rt:78:9
 returns : tie.Need-returns
 returns c = λ e. never e
 
--- src/hunting.rt:81:9
 returns-2 : tie.Need-returns-2
 returns-2 c = λ e. never e
 
--- src/hunting.rt:84:9
 returns-3 : tie.Need-returns-3
 returns-3 c = λ e. never e
 
--- src/hunting.rt:87:9
 returns-4 : tie.Need-returns-4
 returns-4 c = λ e. never e
 
--- src/hunting.rt:90:9
 returns-5 : tie.Need-returns-5
 returns-5 c = λ e. never e
 
--- src/hunting.rt:93:12
 is-init-requires : tie.Need-is-init-requires
 is-init-requires c κs = search needs
 
--- src/hunting.rt:94:13
 no-window-requires : tie.Need-no-window-requires
 no-window-requires c κs = search needs
 
--- src/hunting.rt:94:13
 returns-6 : tie.Need-returns-6
 returns-6 c =
     λ e.
@@ -54,11 +42,9 @@ returns-6 c =
       low = w .2;
     }
 
--- src/hunting.rt:68:1
 returns-7 : tie.Need-returns-7
 returns-7 c = λ e. never e
 
--- src/hunting.rt:68:1
 returns-8 : tie.Need-returns-8
 returns-8 c = λ e. never e
 

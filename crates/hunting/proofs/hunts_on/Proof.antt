@@ -1,4 +1,3 @@
-use native.Mathlib.Omega.{arith}
 use denote.Ref.{now}
 use mathlib.Core.Path.{_≡_, sym, ap, ap₂, _∙_, subst, subst₂}
 use Prim.Native.Nat.{ℕ, _+_, _*_, _%_, _<_}
@@ -16,39 +15,25 @@ use Rattle.hunting.proofs.Unlocked.{times-le, tests-any, tests-quick}
 use borrow.Author.Needs.{needs}
 use Rattle.hunting.proofs.hunts_on.Statement.{statement}
 use Rattle.hunting.proofs.hunts_on.Tie as tie
-use Rattle.hunting.proofs.hunts_on.Reads as reads
-use Rattle.hunting.proofs.hunts_on.Lts as lts
-use Rattle.blocks.proofs.one_at.Reads as one-at-reads
-use Rattle.decoding.proofs.quick.Reads as quick-reads
-use Rattle.hunting.proofs.control.Reads as control-reads
-use Rattle.scrambler.proofs.descramble.Reads as descramble-reads
-use Rattle.tables.proofs.type_row.Reads as type-row-reads
 
--- src/lib.rt:190:8
 add-if1 : tie.Need-add-if1
 add-if1 c = search needs
 
--- src/lib.rt:192:17
 one-at-requires : tie.Need-one-at-requires
 one-at-requires c κs = search needs
 
--- src/lib.rt:193:17
 descramble-requires : tie.Need-descramble-requires
 descramble-requires c κs = search needs
 
--- src/lib.rt:194:17
 type-row-requires : tie.Need-type-row-requires
 type-row-requires c κs = search needs
 
--- src/lib.rt:195:16
 control-requires : tie.Need-control-requires
 control-requires c κs = subst (λ (n : ℕ). n < 4) (sym (c .before .before .before .one-at .ensures .0)) (number-lt 2 (λ i. lineBit (now (c .before .before .before .before .before .before .before .before .before .args .line)) (c .before .before .before .before .before .before .before .before .before .args .s .pos + i)) (λ i q. lineBit-lt (now (c .before .before .before .before .before .before .before .before .before .args .line)) (c .before .before .before .before .before .before .before .before .before .args .s .pos + i)))
 
--- src/lib.rt:195:16
 mul-if3 : tie.Need-mul-if3
 mul-if3 c = search (needs, times-le (c .control .result) (c .before .type-row .result) (c .control .ensures .1))
 
--- src/lib.rt:196:17
 returns : tie.Need-returns
 returns c =
     λ e.
@@ -58,11 +43,9 @@ returns c =
     let row-is : controlOf (c .before .before .before .before .before .one-at .result .header) * getD types (c .before .before .before .before .descramble .result .word % 256) 0 ≡ c .before .control .result * c .before .before .type-row .result = ap₂ (λ (a b : ℕ). a * b) (sym (c .before .control .ensures .0)) (sym (c .before .before .type-row .ensures)) in
     (c .before .before .before .before .before .before .before .before .if1 .taken, c .before .before .before .before .before .before .if2 .taken, λ ed. told ed (tests-any ed (c .before .before .before .before .before .one-at .result .header) (c .before .before .before .before .descramble .result .word) small (row-is ∙ c .if3 .taken)))
 
--- src/lib.rt:198:17
 quick-requires : tie.Need-quick-requires
 quick-requires c κs = search needs
 
--- src/lib.rt:199:13
 returns-2 : tie.Need-returns-2
 returns-2 c =
     λ e.
@@ -72,11 +55,9 @@ returns-2 c =
     let row-is : controlOf (c .before .before .before .before .before .before .one-at .result .header) * getD types (c .before .before .before .before .before .descramble .result .word % 256) 0 ≡ c .before .before .control .result * c .before .before .before .type-row .result = ap₂ (λ (a b : ℕ). a * b) (sym (c .before .before .control .ensures .0)) (sym (c .before .before .before .type-row .ensures)) in
     (c .before .before .before .before .before .before .before .before .before .if1 .taken, c .before .before .before .before .before .before .before .if2 .taken, λ ed. told ed (tests-quick ed (c .before .before .before .before .before .before .one-at .result .header) (c .before .before .before .before .before .descramble .result .word) small (λ z. c .before .if3 .left (sym row-is ∙ z)) (c .quick .result .class) (c .quick .result .vector) (c .quick .ensures e ed)))
 
--- src/lib.rt:186:1
 returns-3 : tie.Need-returns-3
 returns-3 c = λ e. never e
 
--- src/lib.rt:186:1
 returns-4 : tie.Need-returns-4
 returns-4 c = λ e. never e
 

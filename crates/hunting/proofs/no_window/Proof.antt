@@ -3,18 +3,13 @@ use Rattle.receiving.proofs.Stretching.{never}
 use borrow.Author.Tests.{not-true}
 use Rattle.hunting.proofs.no_window.Statement.{statement}
 use Rattle.hunting.proofs.no_window.Tie as tie
-use Rattle.hunting.proofs.no_window.Reads as reads
-use Rattle.hunting.proofs.no_window.Lts as lts
 
--- src/hunting.rt:59:9
 returns : tie.Need-returns
 returns c = λ e. never e
 
--- src/hunting.rt:62:9
 returns-2 : tie.Need-returns-2
 returns-2 c = λ e. never e
 
--- src/hunting.rt:52:1
 returns-3 : tie.Need-returns-3
 returns-3 c = λ e. (omega (arith, c .before .before .before .if1 .left), omega (arith, c .before .if2 .left), not-true (c .before .before .before .before .before .before .before .before .args .p .receiver .link .rate .high) e)
 

@@ -1,10 +1,7 @@
 use native.Mathlib.Nat.{add-zero}
 use Rattle.hunting.proofs.searching.Statement.{statement}
 use Rattle.hunting.proofs.searching.Tie as tie
-use Rattle.hunting.proofs.searching.Reads as reads
-use Rattle.hunting.proofs.searching.Lts as lts
 
--- src/hunting.rt:227:1
 returns : tie.Need-returns
 returns c =
     let p = c .before .before .before .args .p in

@@ -7,19 +7,13 @@ use Rattle.hunting.specs.Unlocked.{controlOf}
 use borrow.Author.Needs.{needs}
 use Rattle.hunting.proofs.untyped.Statement.{statement}
 use Rattle.hunting.proofs.untyped.Tie as tie
-use Rattle.hunting.proofs.untyped.Reads as reads
-use Rattle.hunting.proofs.untyped.Lts as lts
-use Rattle.hunting.proofs.control.Reads as control-reads
 
--- src/lib.rt:182:19
 control-requires : tie.Need-control-requires
 control-requires c κs = search needs
 
--- src/lib.rt:178:1
 returns : tie.Need-returns
 returns c = (c .control .ensures .0 ∙ sym (ap {B = ℕ} (λ (b : Bool). cond b (controlOf (c .before .before .args .header)) 0) (eq-eqb (c .before .before .args .row) 0 (c .before .if1 .taken))), c .control .ensures .1)
 
--- src/lib.rt:178:1
 returns-2 : tie.Need-returns-2
 returns-2 c = (sym (ap {B = ℕ} (λ (b : Bool). cond b (controlOf (c .before .args .header)) 0) (ne-eqb (c .before .args .row) 0 (c .if1 .left))), omega arith)
 

@@ -1,5 +1,4 @@
-use native.Mathlib.Omega.{arith}
-use mathlib.Core.Path.{_≡_, subst, sym}
+use mathlib.Core.Path.{subst, sym}
 use Prim.Native.Nat.{ℕ, _^_, _<_}
 use borrow.Author.Tests.{eqb-true}
 use Rattle.scrambler.proofs.Laws.{lineAfter-lt}
@@ -8,39 +7,28 @@ use Rattle.locked.proofs.InLock.{all-idles}
 use borrow.Author.Needs.{needs}
 use Rattle.locked.proofs.all_idle.Statement.{statement}
 use Rattle.locked.proofs.all_idle.Tie as tie
-use Rattle.locked.proofs.all_idle.Reads as reads
-use Rattle.locked.proofs.all_idle.Lts as lts
-use Rattle.scrambler.proofs.descramble.Reads as descramble-reads
 
--- src/locked.rt:334:9
 descramble-requires : tie.Need-descramble-requires
 descramble-requires c κs = search needs
 
--- src/locked.rt:335:9
 descramble-requires-2 : tie.Need-descramble-requires-2
 descramble-requires-2 c κs = subst (λ (n : ℕ). n < 2 ^ 58) (sym (c .descramble .ensures .1)) (lineAfter-lt (c .before .args .f .a) (c .before .args .history) (c .before .pre))
 
--- src/locked.rt:336:9
 descramble-requires-3 : tie.Need-descramble-requires-3
 descramble-requires-3 c κs = subst (λ (n : ℕ). n < 2 ^ 58) (sym (c .descramble2 .ensures .1)) (lineAfter-lt (c .before .before .args .f .b) (c .before .descramble .result .history) (subst (λ (n : ℕ). n < 2 ^ 58) (sym (c .before .descramble .ensures .1)) (lineAfter-lt (c .before .before .args .f .a) (c .before .before .args .history) (c .before .before .pre))))
 
--- src/locked.rt:337:9
 descramble-requires-4 : tie.Need-descramble-requires-4
 descramble-requires-4 c κs = subst (λ (n : ℕ). n < 2 ^ 58) (sym (c .descramble3 .ensures .1)) (lineAfter-lt (c .before .before .before .args .f .c) (c .before .descramble2 .result .history) (subst (λ (n : ℕ). n < 2 ^ 58) (sym (c .before .descramble2 .ensures .1)) (lineAfter-lt (c .before .before .before .args .f .b) (c .before .before .descramble .result .history) (subst (λ (n : ℕ). n < 2 ^ 58) (sym (c .before .before .descramble .ensures .1)) (lineAfter-lt (c .before .before .before .args .f .a) (c .before .before .before .args .history) (c .before .before .before .pre))))))
 
--- src/locked.rt:341:17
 returns : tie.Need-returns
 returns c = λ e. all-idles (c .before .before .before .before .before .before .before .before .before .before .before .args .f) (c .before .before .before .before .before .before .before .before .before .before .before .args .history) (c .before .before .before .before .before .before .before .before .before .before .descramble .result .word) (c .before .before .before .before .before .before .before .before .before .before .descramble .result .history) (c .before .before .before .before .before .before .before .before .before .descramble2 .result .word) (c .before .before .before .before .before .before .before .before .before .descramble2 .result .history) (c .before .before .before .before .before .before .before .before .descramble3 .result .word) (c .before .before .before .before .before .before .before .before .descramble3 .result .history) (c .before .before .before .before .before .before .before .descramble4 .result .word) (c .before .before .before .before .before .before .before .before .before .before .descramble .ensures .0) (c .before .before .before .before .before .before .before .before .before .before .descramble .ensures .1) (c .before .before .before .before .before .before .before .before .before .descramble2 .ensures .0) (c .before .before .before .before .before .before .before .before .before .descramble2 .ensures .1) (c .before .before .before .before .before .before .before .before .descramble3 .ensures .0) (c .before .before .before .before .before .before .before .before .descramble3 .ensures .1) (c .before .before .before .before .before .before .before .descramble4 .ensures .0) (c .before .before .before .before .before .if1 .taken) (c .before .before .before .if2 .taken) (c .before .if3 .taken) (eqb-true (c .before .before .before .before .before .before .before .descramble4 .result .word) 0x1e e)
 
--- src/locked.rt:330:1
 returns-2 : tie.Need-returns-2
 returns-2 c = λ e. never e
 
--- src/locked.rt:330:1
 returns-3 : tie.Need-returns-3
 returns-3 c = λ e. never e
 
--- src/locked.rt:330:1
 returns-4 : tie.Need-returns-4
 returns-4 c = λ e. never e
 

@@ -4,38 +4,28 @@ use Rattle.receiving.proofs.Stretching.{never}
 use borrow.Author.Needs.{needs}
 use Rattle.locked.proofs.at_once.Statement.{statement}
 use Rattle.locked.proofs.at_once.Tie as tie
-use Rattle.locked.proofs.at_once.Reads as reads
-use Rattle.locked.proofs.at_once.Lts as lts
-use Rattle.decoding.proofs.quick.Reads as quick-reads
 
--- src/lib.rt:406:9
 quick-requires : tie.Need-quick-requires
 quick-requires c κs = search needs
 
--- src/lib.rt:408:9
 returns : tie.Need-returns
 returns c = λ e. c .before .quick .ensures e (c .before .before .args .edition)
 
 enum-told : tie.Need-enum-told
 enum-told c = search needs
 
--- src/lib.rt:417:32
 enum-told-2 : tie.Need-enum-told-2
 enum-told-2 c = search needs
 
--- src/lib.rt:415:21
 returns-2 : tie.Need-returns-2
 returns-2 c = λ e. let a = low-answer (c .before .before .before .before .before .before .args .edition) (c .before .before .before .before .before .before .args .header) (c .before .before .before .before .before .before .args .payload) (c .enum-told2 .given .1) (c .before .before .if3 .taken) (c .before .before .before .if2 .taken) in (a .0, a .1, refl)
 
--- src/lib.rt:403:1
 returns-3 : tie.Need-returns-3
 returns-3 c = λ e. never (sym (c .before .before .before .before .if1 .left) ∙ e)
 
--- src/lib.rt:403:1
 returns-4 : tie.Need-returns-4
 returns-4 c = λ e. never (sym (c .before .before .if1 .left) ∙ e)
 
--- src/lib.rt:403:1
 returns-5 : tie.Need-returns-5
 returns-5 c = λ e. never (sym (c .before .if1 .left) ∙ e)
 

@@ -3,31 +3,22 @@ use mathlib.Core.Path.{refl, _∙_}
 use Rattle.locked.proofs.InLock.{data-valid, comes-first, comes-second, comes-third, comes-fourth, steps-four}
 use Rattle.locked.proofs.data_four.Statement.{statement}
 use Rattle.locked.proofs.data_four.Tie as tie
-use Rattle.locked.proofs.data_four.Reads as reads
-use Rattle.locked.proofs.data_four.Lts as lts
-use Rattle.locked.proofs.data_step.Reads as data-step-reads
 
--- src/locked.rt:258:9
 data-step-requires : tie.Need-data-step-requires
 data-step-requires c κs = (c .before .before .before .pre .0, comes-first (now (c .before .before .before .args .line)) (now (c .before .before .before .args .room)) (c .before .before .before .args .p) (c .before .before .before .args .f) 2 0xaa data-valid (refl, refl, refl, refl) (c .before .before .before .pre .1) (c .before .before .before .pre .2) (c .before .before .before .pre .4) (c .before .before .before .pre .5) (c .before .before .before .pre .6) (c .before .before .before .pre .7), c .before .before .before .pre .3)
 
--- src/locked.rt:259:9
 data-step-requires-2 : tie.Need-data-step-requires-2
 data-step-requires-2 c κs = (c .before .before .before .before .before .before .before .pre .0, comes-second (now (c .before .before .before .before .before .before .before .args .line)) (now (c .before .before .before .before .before .before .before .args .room)) (c .before .before .before .before .before .before .before .args .p) (c .before .before .before .before .before .before .before .args .f) 2 0xaa data-valid (refl, refl, refl, refl) (c .before .before .before .before .before .before .before .pre .1) (c .before .before .before .before .before .before .before .pre .2) (c .before .before .before .before .before .before .before .pre .4) (c .before .before .before .before .before .before .before .pre .5) (c .before .before .before .before .before .before .before .pre .6) (c .before .before .before .before .before .before .before .pre .7) (c .before .before .before .data-step .last .1 .0) (c .before .before .before .data-step .result) (c .before .before .before .data-step .ensures .0), c .before .before .before .data-step .ensures .1)
 
--- src/locked.rt:260:9
 data-step-requires-3 : tie.Need-data-step-requires-3
 data-step-requires-3 c κs = (c .before .before .before .before .before .before .before .before .before .before .before .pre .0, comes-third (now (c .before .before .before .before .before .before .before .before .before .before .before .args .line)) (now (c .before .before .before .before .before .before .before .before .before .before .before .args .room)) (c .before .before .before .before .before .before .before .before .before .before .before .args .p) (c .before .before .before .before .before .before .before .before .before .before .before .args .f) 2 0xaa data-valid (refl, refl, refl, refl) (c .before .before .before .before .before .before .before .before .before .before .before .pre .1) (c .before .before .before .before .before .before .before .before .before .before .before .pre .2) (c .before .before .before .before .before .before .before .before .before .before .before .pre .4) (c .before .before .before .before .before .before .before .before .before .before .before .pre .5) (c .before .before .before .before .before .before .before .before .before .before .before .pre .6) (c .before .before .before .before .before .before .before .before .before .before .before .pre .7) (c .before .before .before .before .before .before .before .data-step .last .1 .0) (c .before .before .before .before .before .before .before .data-step .result) (c .before .before .before .before .before .before .before .data-step .ensures .0) (c .before .before .before .data-step2 .last .1 .0) (c .before .before .before .data-step2 .result) (c .before .before .before .data-step2 .ensures .0), c .before .before .before .data-step2 .ensures .1)
 
--- src/locked.rt:261:5
 data-step-requires-4 : tie.Need-data-step-requires-4
 data-step-requires-4 c κs = (c .before .before .before .before .before .before .before .before .before .before .before .before .before .before .before .pre .0, comes-fourth (now (c .before .before .before .before .before .before .before .before .before .before .before .before .before .before .before .args .line)) (now (c .before .before .before .before .before .before .before .before .before .before .before .before .before .before .before .args .room)) (c .before .before .before .before .before .before .before .before .before .before .before .before .before .before .before .args .p) (c .before .before .before .before .before .before .before .before .before .before .before .before .before .before .before .args .f) 2 0xaa data-valid (refl, refl, refl, refl) (c .before .before .before .before .before .before .before .before .before .before .before .before .before .before .before .pre .1) (c .before .before .before .before .before .before .before .before .before .before .before .before .before .before .before .pre .2) (c .before .before .before .before .before .before .before .before .before .before .before .before .before .before .before .pre .4) (c .before .before .before .before .before .before .before .before .before .before .before .before .before .before .before .pre .5) (c .before .before .before .before .before .before .before .before .before .before .before .before .before .before .before .pre .6) (c .before .before .before .before .before .before .before .before .before .before .before .before .before .before .before .pre .7) (c .before .before .before .before .before .before .before .before .before .before .before .data-step .last .1 .0) (c .before .before .before .before .before .before .before .before .before .before .before .data-step .result) (c .before .before .before .before .before .before .before .before .before .before .before .data-step .ensures .0) (c .before .before .before .before .before .before .before .data-step2 .last .1 .0) (c .before .before .before .before .before .before .before .data-step2 .result) (c .before .before .before .before .before .before .before .data-step2 .ensures .0) (c .before .before .before .data-step3 .last .1 .0) (c .before .before .before .data-step3 .result) (c .before .before .before .data-step3 .ensures .0), c .before .before .before .data-step3 .ensures .1)
 
--- src/locked.rt:254:1
 same-length : tie.Need-same-length
 same-length c = c .before .before .data-step4 .ensures .0 .turns .len ∙ c .before .before .before .before .before .before .data-step3 .ensures .0 .turns .len ∙ c .before .before .before .before .before .before .before .before .before .before .data-step2 .ensures .0 .turns .len ∙ c .before .before .before .before .before .before .before .before .before .before .before .before .before .before .data-step .ensures .0 .turns .len
 
--- src/locked.rt:254:1
 returns : tie.Need-returns
 returns c = (
   steps-four (now (c .before .before .before .before .before .before .before .before .before .before .before .before .before .before .before .before .before .before .args .line)) (now (c .before .before .before .before .before .before .before .before .before .before .before .before .before .before .before .before .before .before .args .room)) (c .before .before .before .before .before .before .before .before .before .before .before .before .before .before .data-step .last .1 .0) (c .before .before .before .before .before .before .before .before .before .before .data-step2 .last .1 .0) (c .before .before .before .before .before .before .data-step3 .last .1 .0) (c .before .before .data-step4 .last .1 .0) (c .before .before .before .before .before .before .before .before .before .before .before .before .before .before .before .before .before .before .args .f .a) (c .before .before .before .before .before .before .before .before .before .before .before .before .before .before .before .before .before .before .args .f .b) (c .before .before .before .before .before .before .before .before .before .before .before .before .before .before .before .before .before .before .args .f .c) (c .before .before .before .before .before .before .before .before .before .before .before .before .before .before .before .before .before .before .args .f .d)

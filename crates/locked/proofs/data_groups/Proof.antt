@@ -10,11 +10,6 @@ use Rattle.locked.specs.InLock.{InLock, GoesTo}
 use Rattle.receiving.proofs.Stretching.{stretch-first, stretch-more, stretch-turn}
 use Rattle.locked.proofs.data_groups.Statement.{statement}
 use Rattle.locked.proofs.data_groups.Tie as tie
-use Rattle.locked.proofs.data_groups.Reads as reads
-use Rattle.locked.proofs.data_groups.Lts as lts
-use Rattle.blocks.proofs.four_at.Reads as four-at-reads
-use Rattle.locked.proofs.data_four.Reads as data-four-reads
-use Rattle.locked.proofs.data_next.Reads as data-next-reads
 
 abbrev Inv-loop : tie.InvT-loop
 Inv-loop line room₀ sh p₀ room p = Stretches line room₀ room p₀ p × InLock p × GoesTo Data p × (p .pos % 8 ≡ sh)
@@ -22,19 +17,15 @@ Inv-loop line room₀ sh p₀ room p = Stretches line room₀ room p₀ p × InL
 abbrev μ-loop : tie.MeasureT-loop
 μ-loop line room₀ sh p₀ room p = 8 * length line - p .pos
 
--- src/locked.rt:283:5
 loop-holds : tie.Need-loop-holds Inv-loop μ-loop
 loop-holds c = (stretch-first (now (c .before .before .before .args .line)) (now (c .before .before .before .args .room)) (c .before .before .before .args .start) (c .before .before .before .pre .1) (c .before .before .before .pre .4), c .before .before .before .pre .2, c .before .before .before .pre .3, refl)
 
--- src/locked.rt:283:11
 data-next-requires : tie.Need-data-next-requires Inv-loop μ-loop
 data-next-requires c κs = (c .before .before .before .before .pre .0, c .loop .inv .3, c .loop .inv .0 .under .range .blocks)
 
--- src/locked.rt:284:38
 four-at-requires : tie.Need-four-at-requires Inv-loop μ-loop
 four-at-requires c κs = (c .before .before .before .data-next .ensures (c .before .before .if1 .taken) .0, omega (arith, c .before .before .before .before .loop .inv .3))
 
--- src/locked.rt:284:9
 data-four-requires : tie.Need-data-four-requires Inv-loop μ-loop
 data-four-requires c κs =
     let e : 8 * (c .before .before .before .before .before .loop .p .pos / 8) + c .before .before .before .before .before .before .before .before .before .args .start .pos % 8 ≡ c .before .before .before .before .before .loop .p .pos = omega (arith, c .before .before .before .before .before .loop .inv .3) in
@@ -42,11 +33,9 @@ data-four-requires c κs =
     let next = c .before .before .before .before .data-next .ensures (c .before .before .before .if1 .taken) in
     (c .before .before .before .before .before .before .before .before .before .pre .0, c .before .before .before .before .before .loop .inv .0 .under, c .before .before .before .before .before .loop .inv .1, c .before .before .before .before .before .loop .inv .2, omega (arith, next .0), fs, fs .headers ∙ next .1, next .2)
 
--- src/locked.rt:283:5
 loop-less : tie.Need-loop-less Inv-loop μ-loop
 loop-less c = omega (arith, c .before .before .data-four .ensures .0 .pos, c .before .before .before .before .before .before .before .before .loop .inv .0 .ends)
 
--- src/locked.rt:283:5
 loop-again : tie.Need-loop-again Inv-loop μ-loop
 loop-again c =
     let four = c .before .before .data-four .ensures .0 in (
@@ -57,11 +46,9 @@ loop-again c =
       omega (arith, four .pos, c .before .before .before .before .before .before .before .before .loop .inv .3),
     )
 
--- src/locked.rt:277:1
 same-length : tie.Need-same-length Inv-loop μ-loop
 same-length c = c .before .before .loop .inv .0 .len
 
--- src/locked.rt:277:1
 returns : tie.Need-returns Inv-loop μ-loop
 returns c = (c .before .before .loop .inv .0, c .before .before .loop .inv .1)
 

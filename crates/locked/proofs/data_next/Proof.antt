@@ -8,20 +8,13 @@ use Rattle.receiving.proofs.Stretching.{never}
 use borrow.Author.Needs.{needs}
 use Rattle.locked.proofs.data_next.Statement.{statement}
 use Rattle.locked.proofs.data_next.Tie as tie
-use Rattle.locked.proofs.data_next.Reads as reads
-use Rattle.locked.proofs.data_next.Lts as lts
-use Rattle.blocks.proofs.four_at.Reads as four-at-reads
-use Rattle.locked.proofs.four_fit.Reads as four-fit-reads
 
--- src/locked.rt:269:8
 four-fit-requires : tie.Need-four-fit-requires
 four-fit-requires c κs = search needs
 
--- src/locked.rt:270:13
 four-at-requires : tie.Need-four-at-requires
 four-at-requires c κs = (c .before .before .four-fit .ensures (c .before .if1 .taken) .0, omega (arith, c .before .before .before .before .pre .1))
 
--- src/locked.rt:271:9
 returns : tie.Need-returns
 returns c =
     λ e.
@@ -31,7 +24,6 @@ returns c =
     let fit = c .before .before .before .before .four-fit .ensures (c .before .before .before .if1 .taken) in
     (fit .0, sym (fs .headers) ∙ eqb-true (c .before .four-at .result .headers) 0xaa e, fit .1)
 
--- src/locked.rt:265:1
 returns-2 : tie.Need-returns-2
 returns-2 c = λ e. never e
 

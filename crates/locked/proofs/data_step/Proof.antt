@@ -9,31 +9,21 @@ use Rattle.locked.proofs.InLock.{data-data}
 use borrow.Author.Needs.{needs}
 use Rattle.locked.proofs.data_step.Statement.{statement}
 use Rattle.locked.proofs.data_step.Tie as tie
-use Rattle.locked.proofs.data_step.Reads as reads
-use Rattle.locked.proofs.data_step.Lts as lts
-use Rattle.locked.proofs.octets.Reads as octets-reads
-use Rattle.locked.proofs.steady_step.Reads as steady-step-reads
-use Rattle.scrambler.proofs.descramble.Reads as descramble-reads
 
--- src/locked.rt:245:9
 descramble-requires : tie.Need-descramble-requires
 descramble-requires c κs = search needs
 
--- src/locked.rt:250:73
 octets-requires : tie.Need-octets-requires
 octets-requires c κs = search needs
 
--- src/locked.rt:250:5
 steady-step-requires : tie.Need-steady-step-requires
 steady-step-requires c κs =
     let ed = c .before .before .before .before .before .before .before .args .p .receiver .link .edition in
     (c .before .before .before .before .before .before .before .pre .0, c .before .before .before .before .before .before .before .pre .1, record { class = data-answer ed 2 _ refl .0; vector = c .octets .ensures ed ∙ ap (decoded ed 2) (c .before .before .descramble .ensures .0); good = refl }, c .before .before .before .before .before .before .before .pre .2, refl, refl, c .before .before .descramble .ensures .1)
 
--- src/locked.rt:239:1
 same-length : tie.Need-same-length
 same-length c = search needs
 
--- src/locked.rt:239:1
 returns : tie.Need-returns
 unfolding GoesTo
 returns c = (

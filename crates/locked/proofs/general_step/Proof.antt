@@ -1,53 +1,37 @@
-use native.Mathlib.Omega.{arith}
 use denote.Ref.{now}
 use mathlib.Core.Path.{refl, ap, _∙_}
 use Rattle.block.specs.declared.Kind.{Kind}
 use Rattle.block.specs.Block.{kindIn}
-use mathlib.Core.Bool.{Bool}
 use Rattle.diagrams.specs.Diagram.{diagramOf}
 use Rattle.locked.proofs.InLock.{one-fits, under-wide, step-general}
 use borrow.Author.Needs.{needs}
 use Rattle.locked.proofs.general_step.Statement.{statement}
 use Rattle.locked.proofs.general_step.Tie as tie
-use Rattle.locked.proofs.general_step.Reads as reads
-use Rattle.locked.proofs.general_step.Lts as lts
-use Rattle.decoding.proofs.kind_in.Reads as kind-in-reads
-use Rattle.diagrams.proofs.diagram_step.Reads as diagram-step-reads
-use Rattle.receiving.proofs.answering.hand_out.Reads as hand-out-reads
-use Rattle.locked.proofs.advanced.Reads as advanced-reads
-use Rattle.vectors.proofs.put_vector.Reads as put-vector-reads
 
--- src/locked.rt:230:37
 add-end : tie.Need-add-end
 add-end c = search (needs, one-fits (now (c .before .before .before .args .line)) (now (c .before .before .before .args .room)) (c .before .before .before .args .p) (c .before .before .before .args .b .header) (c .before .before .before .args .b .payload) (c .before .before .before .pre .1) (c .before .before .before .args .class) (c .before .before .before .args .vector) (c .before .before .before .pre .2))
 
 kind-in-requires : tie.Need-kind-in-requires
 kind-in-requires c κs = search needs
 
--- src/locked.rt:230:9
 diagram-step-requires : tie.Need-diagram-step-requires
 diagram-step-requires c κs = search needs
 
--- src/locked.rt:231:9
 hand-out-requires : tie.Need-hand-out-requires
 hand-out-requires c κs = search needs
 
--- src/locked.rt:234:5
 put-vector-requires : tie.Need-put-vector-requires
 put-vector-requires c κs = one-fits (now (c .before .before .before .before .before .before .before .before .before .before .before .before .args .line)) (now (c .before .before .before .before .before .before .before .before .before .before .before .before .args .room)) (c .before .before .before .before .before .before .before .before .before .before .before .before .args .p) (c .before .before .before .before .before .before .before .before .before .before .before .before .args .b .header) (c .before .before .before .before .before .before .before .before .before .before .before .before .args .b .payload) (c .before .before .before .before .before .before .before .before .before .before .before .before .pre .1) (c .before .before .before .before .before .before .before .before .before .before .before .before .args .class) (c .before .before .before .before .before .before .before .before .before .before .before .before .args .vector) (c .before .before .before .before .before .before .before .before .before .before .before .before .pre .2)
 
--- src/locked.rt:235:5
 advanced-requires : tie.Need-advanced-requires
 advanced-requires c κs =
     let u = c .before .before .before .before .before .before .before .before .before .before .before .before .before .before .before .pre .1 .under in
     let w = under-wide (now (c .before .before .before .before .before .before .before .before .before .before .before .before .before .before .before .args .line)) (now (c .before .before .before .before .before .before .before .before .before .before .before .before .before .before .before .args .room)) (c .before .before .before .before .before .before .before .before .before .before .before .before .before .before .before .args .p) u (c .before .before .before .before .before .before .before .before .before .before .before .before .before .before .before .pre .0) in
     (w .0, refl, w .1, u .range .tested, u .range .invalid, c .before .before .before .before .before .before .before .before .before .before .before .before .before .before .before .pre .1 .more, c .before .before .before .before .before .before .before .before .before .before .before .before .before .before .before .pre .1 .lock)
 
--- src/locked.rt:212:1
 same-length : tie.Need-same-length
 same-length c = search needs
 
--- src/locked.rt:212:1
 returns : tie.Need-returns
 returns c =
     let p = c .before .before .before .before .before .before .before .before .before .before .before .before .before .before .before .before .args .p in

@@ -8,24 +8,17 @@ use Rattle.locked.proofs.InLock.{goes-on}
 use borrow.Author.Needs.{needs}
 use Rattle.locked.proofs.goes_to_control.Statement.{statement}
 use Rattle.locked.proofs.goes_to_control.Tie as tie
-use Rattle.locked.proofs.goes_to_control.Reads as reads
-use Rattle.locked.proofs.goes_to_control.Lts as lts
-use Rattle.locked.proofs.state_next.Reads as state-next-reads
 
--- src/locked.rt:149:11
 state-next-requires : tie.Need-state-next-requires
 state-next-requires c κs = search needs
 
--- src/locked.rt:150:27
 enum-told : tie.Need-enum-told
 enum-told c = search needs
 
--- src/locked.rt:146:1
 returns : tie.Need-returns
 unfolding GoesTo
 returns c = λ e. goes-on Control (λ q. omega arith) (c .before .before .before .args .p .receiver .state) (kindIn (c .before .before .before .args .p .receiver .held .class)) (sym (c .before .before .state-next .ensures) ∙ c .enum-told .given .1)
 
--- src/locked.rt:146:1
 returns-2 : tie.Need-returns-2
 returns-2 c = λ e. never e
 

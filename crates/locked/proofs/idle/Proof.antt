@@ -2,10 +2,7 @@ use Rattle.locked.proofs.InLock.{idle-answer}
 use mathlib.Core.Path.{refl}
 use Rattle.locked.proofs.idle.Statement.{statement}
 use Rattle.locked.proofs.idle.Tie as tie
-use Rattle.locked.proofs.idle.Reads as reads
-use Rattle.locked.proofs.idle.Lts as lts
 
--- src/locked.rt:292:1
 returns : tie.Need-returns
 returns c = λ ed. idle-answer ed 0x1e refl .1
 

@@ -3,31 +3,22 @@ use mathlib.Core.Path.{refl, _∙_}
 use Rattle.locked.proofs.InLock.{control-valid, comes-first, comes-second, comes-third, comes-fourth, idle-second, idle-third, idle-fourth, steps-four}
 use Rattle.locked.proofs.idle_four.Statement.{statement}
 use Rattle.locked.proofs.idle_four.Tie as tie
-use Rattle.locked.proofs.idle_four.Reads as reads
-use Rattle.locked.proofs.idle_four.Lts as lts
-use Rattle.locked.proofs.idle_step.Reads as idle-step-reads
 
--- src/locked.rt:323:9
 idle-step-requires : tie.Need-idle-step-requires
 idle-step-requires c κs = (c .before .before .before .pre .0, comes-first (now (c .before .before .before .args .line)) (now (c .before .before .before .args .room)) (c .before .before .before .args .p) (c .before .before .before .args .f) 1 0x55 control-valid (refl, refl, refl, refl) (c .before .before .before .pre .1) (c .before .before .before .pre .2) (c .before .before .before .pre .4) (c .before .before .before .pre .5) (c .before .before .before .pre .6) (c .before .before .before .pre .7), c .before .before .before .pre .3, c .before .before .before .pre .8 .a)
 
--- src/locked.rt:324:9
 idle-step-requires-2 : tie.Need-idle-step-requires-2
 idle-step-requires-2 c κs = (c .before .before .before .before .before .before .before .pre .0, comes-second (now (c .before .before .before .before .before .before .before .args .line)) (now (c .before .before .before .before .before .before .before .args .room)) (c .before .before .before .before .before .before .before .args .p) (c .before .before .before .before .before .before .before .args .f) 1 0x55 control-valid (refl, refl, refl, refl) (c .before .before .before .before .before .before .before .pre .1) (c .before .before .before .before .before .before .before .pre .2) (c .before .before .before .before .before .before .before .pre .4) (c .before .before .before .before .before .before .before .pre .5) (c .before .before .before .before .before .before .before .pre .6) (c .before .before .before .before .before .before .before .pre .7) (c .before .before .before .idle-step .last .1 .0) (c .before .before .before .idle-step .result) (c .before .before .before .idle-step .ensures .0), c .before .before .before .idle-step .ensures .1, idle-second (now (c .before .before .before .before .before .before .before .args .line)) (now (c .before .before .before .before .before .before .before .args .room)) (c .before .before .before .idle-step .last .1 .0) (c .before .before .before .idle-step .last .1 .0) (c .before .before .before .idle-step .last .1 .0) (c .before .before .before .before .before .before .before .args .f) (c .before .before .before .before .before .before .before .args .p) (c .before .before .before .idle-step .result) (c .before .before .before .idle-step .result) (c .before .before .before .idle-step .result) (c .before .before .before .before .before .before .before .pre .8) (c .before .before .before .idle-step .ensures .0))
 
--- src/locked.rt:325:9
 idle-step-requires-3 : tie.Need-idle-step-requires-3
 idle-step-requires-3 c κs = (c .before .before .before .before .before .before .before .before .before .before .before .pre .0, comes-third (now (c .before .before .before .before .before .before .before .before .before .before .before .args .line)) (now (c .before .before .before .before .before .before .before .before .before .before .before .args .room)) (c .before .before .before .before .before .before .before .before .before .before .before .args .p) (c .before .before .before .before .before .before .before .before .before .before .before .args .f) 1 0x55 control-valid (refl, refl, refl, refl) (c .before .before .before .before .before .before .before .before .before .before .before .pre .1) (c .before .before .before .before .before .before .before .before .before .before .before .pre .2) (c .before .before .before .before .before .before .before .before .before .before .before .pre .4) (c .before .before .before .before .before .before .before .before .before .before .before .pre .5) (c .before .before .before .before .before .before .before .before .before .before .before .pre .6) (c .before .before .before .before .before .before .before .before .before .before .before .pre .7) (c .before .before .before .before .before .before .before .idle-step .last .1 .0) (c .before .before .before .before .before .before .before .idle-step .result) (c .before .before .before .before .before .before .before .idle-step .ensures .0) (c .before .before .before .idle-step2 .last .1 .0) (c .before .before .before .idle-step2 .result) (c .before .before .before .idle-step2 .ensures .0), c .before .before .before .idle-step2 .ensures .1, idle-third (now (c .before .before .before .before .before .before .before .before .before .before .before .args .line)) (now (c .before .before .before .before .before .before .before .before .before .before .before .args .room)) (c .before .before .before .before .before .before .before .idle-step .last .1 .0) (c .before .before .before .idle-step2 .last .1 .0) (c .before .before .before .idle-step2 .last .1 .0) (c .before .before .before .before .before .before .before .before .before .before .before .args .f) (c .before .before .before .before .before .before .before .before .before .before .before .args .p) (c .before .before .before .before .before .before .before .idle-step .result) (c .before .before .before .idle-step2 .result) (c .before .before .before .idle-step2 .result) (c .before .before .before .before .before .before .before .before .before .before .before .pre .8) (c .before .before .before .before .before .before .before .idle-step .ensures .0) (c .before .before .before .idle-step2 .ensures .0))
 
--- src/locked.rt:326:5
 idle-step-requires-4 : tie.Need-idle-step-requires-4
 idle-step-requires-4 c κs = (c .before .before .before .before .before .before .before .before .before .before .before .before .before .before .before .pre .0, comes-fourth (now (c .before .before .before .before .before .before .before .before .before .before .before .before .before .before .before .args .line)) (now (c .before .before .before .before .before .before .before .before .before .before .before .before .before .before .before .args .room)) (c .before .before .before .before .before .before .before .before .before .before .before .before .before .before .before .args .p) (c .before .before .before .before .before .before .before .before .before .before .before .before .before .before .before .args .f) 1 0x55 control-valid (refl, refl, refl, refl) (c .before .before .before .before .before .before .before .before .before .before .before .before .before .before .before .pre .1) (c .before .before .before .before .before .before .before .before .before .before .before .before .before .before .before .pre .2) (c .before .before .before .before .before .before .before .before .before .before .before .before .before .before .before .pre .4) (c .before .before .before .before .before .before .before .before .before .before .before .before .before .before .before .pre .5) (c .before .before .before .before .before .before .before .before .before .before .before .before .before .before .before .pre .6) (c .before .before .before .before .before .before .before .before .before .before .before .before .before .before .before .pre .7) (c .before .before .before .before .before .before .before .before .before .before .before .idle-step .last .1 .0) (c .before .before .before .before .before .before .before .before .before .before .before .idle-step .result) (c .before .before .before .before .before .before .before .before .before .before .before .idle-step .ensures .0) (c .before .before .before .before .before .before .before .idle-step2 .last .1 .0) (c .before .before .before .before .before .before .before .idle-step2 .result) (c .before .before .before .before .before .before .before .idle-step2 .ensures .0) (c .before .before .before .idle-step3 .last .1 .0) (c .before .before .before .idle-step3 .result) (c .before .before .before .idle-step3 .ensures .0), c .before .before .before .idle-step3 .ensures .1, idle-fourth (now (c .before .before .before .before .before .before .before .before .before .before .before .before .before .before .before .args .line)) (now (c .before .before .before .before .before .before .before .before .before .before .before .before .before .before .before .args .room)) (c .before .before .before .before .before .before .before .before .before .before .before .idle-step .last .1 .0) (c .before .before .before .before .before .before .before .idle-step2 .last .1 .0) (c .before .before .before .idle-step3 .last .1 .0) (c .before .before .before .before .before .before .before .before .before .before .before .before .before .before .before .args .f) (c .before .before .before .before .before .before .before .before .before .before .before .before .before .before .before .args .p) (c .before .before .before .before .before .before .before .before .before .before .before .idle-step .result) (c .before .before .before .before .before .before .before .idle-step2 .result) (c .before .before .before .idle-step3 .result) (c .before .before .before .before .before .before .before .before .before .before .before .before .before .before .before .pre .8) (c .before .before .before .before .before .before .before .before .before .before .before .idle-step .ensures .0) (c .before .before .before .before .before .before .before .idle-step2 .ensures .0) (c .before .before .before .idle-step3 .ensures .0))
 
--- src/locked.rt:319:1
 same-length : tie.Need-same-length
 same-length c = c .before .before .idle-step4 .ensures .0 .turns .len ∙ c .before .before .before .before .before .before .idle-step3 .ensures .0 .turns .len ∙ c .before .before .before .before .before .before .before .before .before .before .idle-step2 .ensures .0 .turns .len ∙ c .before .before .before .before .before .before .before .before .before .before .before .before .before .before .idle-step .ensures .0 .turns .len
 
--- src/locked.rt:319:1
 returns : tie.Need-returns
 returns c = (
   steps-four (now (c .before .before .before .before .before .before .before .before .before .before .before .before .before .before .before .before .before .before .args .line)) (now (c .before .before .before .before .before .before .before .before .before .before .before .before .before .before .before .before .before .before .args .room)) (c .before .before .before .before .before .before .before .before .before .before .before .before .before .before .idle-step .last .1 .0) (c .before .before .before .before .before .before .before .before .before .before .idle-step2 .last .1 .0) (c .before .before .before .before .before .before .idle-step3 .last .1 .0) (c .before .before .idle-step4 .last .1 .0) (c .before .before .before .before .before .before .before .before .before .before .before .before .before .before .before .before .before .before .args .f .a) (c .before .before .before .before .before .before .before .before .before .before .before .before .before .before .before .before .before .before .args .f .b) (c .before .before .before .before .before .before .before .before .before .before .before .before .before .before .before .before .before .before .args .f .c) (c .before .before .before .before .before .before .before .before .before .before .before .before .before .before .before .before .before .before .args .f .d)

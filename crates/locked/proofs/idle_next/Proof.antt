@@ -8,25 +8,16 @@ use Rattle.locked.proofs.InLock.{idle-all}
 use borrow.Author.Needs.{needs}
 use Rattle.locked.proofs.idle_next.Statement.{statement}
 use Rattle.locked.proofs.idle_next.Tie as tie
-use Rattle.locked.proofs.idle_next.Reads as reads
-use Rattle.locked.proofs.idle_next.Lts as lts
-use Rattle.blocks.proofs.four_at.Reads as four-at-reads
-use Rattle.locked.proofs.all_idle.Reads as all-idle-reads
-use Rattle.locked.proofs.four_fit.Reads as four-fit-reads
 
--- src/locked.rt:353:8
 four-fit-requires : tie.Need-four-fit-requires
 four-fit-requires c κs = search needs
 
--- src/locked.rt:354:13
 four-at-requires : tie.Need-four-at-requires
 four-at-requires c κs = (c .before .before .four-fit .ensures (c .before .if1 .taken) .0, omega (arith, c .before .before .before .before .pre .1))
 
--- src/locked.rt:358:13
 all-idle-requires : tie.Need-all-idle-requires
 all-idle-requires c κs = search needs
 
--- src/locked.rt:358:13
 returns : tie.Need-returns
 returns c =
     λ e.
@@ -36,11 +27,9 @@ returns c =
     let fit = c .before .before .before .before .before .before .before .before .four-fit .ensures (c .before .before .before .before .before .before .before .if1 .taken) in
     (fit .0, sym (fs .headers) ∙ c .before .before .before .if2 .taken, fit .1, idle-all line (c .before .before .before .before .before .before .before .before .before .before .args .p .pos) (c .before .before .before .before .before .before .before .before .before .before .args .p .receiver .link .history) (c .before .before .before .before .before .four-at .result) fs (c .all-idle .ensures e))
 
--- src/locked.rt:349:1
 returns-2 : tie.Need-returns-2
 returns-2 c = λ e. never e
 
--- src/locked.rt:349:1
 returns-3 : tie.Need-returns-3
 returns-3 c = λ e. never e
 

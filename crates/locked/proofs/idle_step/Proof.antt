@@ -8,31 +8,21 @@ use Rattle.locked.proofs.InLock.{control-control, idle-answer}
 use borrow.Author.Needs.{needs}
 use Rattle.locked.proofs.idle_step.Statement.{statement}
 use Rattle.locked.proofs.idle_step.Tie as tie
-use Rattle.locked.proofs.idle_step.Reads as reads
-use Rattle.locked.proofs.idle_step.Lts as lts
-use Rattle.locked.proofs.idle.Reads as idle-reads
-use Rattle.locked.proofs.steady_step.Reads as steady-step-reads
-use Rattle.scrambler.proofs.descramble.Reads as descramble-reads
 
--- src/locked.rt:310:9
 descramble-requires : tie.Need-descramble-requires
 descramble-requires c κs = search needs
 
--- src/locked.rt:315:76
 idle-requires : tie.Need-idle-requires
 idle-requires c κs = search needs
 
--- src/locked.rt:315:5
 steady-step-requires : tie.Need-steady-step-requires
 steady-step-requires c κs =
     let ed = c .before .before .before .before .before .before .before .args .p .receiver .link .edition in
     (c .before .before .before .before .before .before .before .pre .0, c .before .before .before .before .before .before .before .pre .1, record { class = idle-answer ed _ (c .before .before .before .before .before .before .before .pre .3) .0; vector = c .idle .ensures ed ∙ ap (decoded ed 1) (sym (c .before .before .before .before .before .before .before .pre .3)); good = refl }, c .before .before .before .before .before .before .before .pre .2, refl, refl, c .before .before .descramble .ensures .1)
 
--- src/locked.rt:304:1
 same-length : tie.Need-same-length
 same-length c = search needs
 
--- src/locked.rt:304:1
 returns : tie.Need-returns
 unfolding GoesTo
 returns c = (

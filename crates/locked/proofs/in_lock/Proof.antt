@@ -2,26 +2,19 @@ use native.Mathlib.Omega.{arith}
 use Rattle.receiving.proofs.Stretching.{never}
 use Rattle.locked.proofs.in_lock.Statement.{statement}
 use Rattle.locked.proofs.in_lock.Tie as tie
-use Rattle.locked.proofs.in_lock.Reads as reads
-use Rattle.locked.proofs.in_lock.Lts as lts
 
--- src/locked.rt:53:9
 returns : tie.Need-returns
 returns c = λ e. never e
 
--- src/locked.rt:56:9
 returns-2 : tie.Need-returns-2
 returns-2 c = λ e. never e
 
--- src/locked.rt:59:9
 returns-3 : tie.Need-returns-3
 returns-3 c = λ e. never e
 
--- src/locked.rt:62:9
 returns-4 : tie.Need-returns-4
 returns-4 c = λ e. never e
 
--- src/locked.rt:66:13
 returns-5 : tie.Need-returns-5
 returns-5 c =
     λ e.
@@ -35,11 +28,9 @@ returns-5 c =
       few = omega (arith, c .before .before .before .if3 .left);
     }
 
--- src/locked.rt:43:1
 returns-6 : tie.Need-returns-6
 returns-6 c = λ e. never e
 
--- src/locked.rt:43:1
 returns-7 : tie.Need-returns-7
 returns-7 c = λ e. never e
 

@@ -3,18 +3,13 @@ use Rattle.decoding.proofs.Rows.{data-answer}
 use borrow.Author.Needs.{needs}
 use Rattle.locked.proofs.octets.Statement.{statement}
 use Rattle.locked.proofs.octets.Tie as tie
-use Rattle.locked.proofs.octets.Reads as reads
-use Rattle.locked.proofs.octets.Lts as lts
 
--- src/locked.rt:181:13
 cast-t3 : tie.Need-cast-t3
 cast-t3 c = search needs
 
--- src/locked.rt:183:13
 cast-t5 : tie.Need-cast-t5
 cast-t5 c = search needs
 
--- src/locked.rt:176:1
 returns : tie.Need-returns
 returns c = λ ed. data-answer ed 2 (c .args .x) refl .1
 

@@ -1,56 +1,39 @@
 use native.Mathlib.Omega.{arith}
 use denote.Ref.{now}
-use mathlib.Core.Path.{_≡_, refl, sym, ap, _∙_, subst}
-use Prim.Native.Nat.{ℕ, _+_, _*_, _<_}
+use mathlib.Core.Path.{sym, ap, _∙_, subst}
+use Prim.Native.Nat.{ℕ, _+_, _<_}
 use Rattle.bits.proofs.Laws.{number-lt}
 use Rattle.bits.proofs.Lists.{lineBit-lt}
 use Rattle.bits.specs.Bits.{lineBit}
 use Rattle.block.specs.Block.{classOf, decoded}
-use Rattle.block.specs.declared.Kind.{Kind}
 use Rattle.diagrams.specs.Diagram.{follows}
 use Rattle.receiving.proofs.Stretching.{stretch-turn}
 use Rattle.locked.proofs.InLock.{good-valid}
 use borrow.Author.Needs.{needs}
 use Rattle.locked.proofs.single.Statement.{statement}
 use Rattle.locked.proofs.single.Tie as tie
-use Rattle.locked.proofs.single.Reads as reads
-use Rattle.locked.proofs.single.Lts as lts
-use Rattle.blocks.proofs.one_at.Reads as one-at-reads
-use Rattle.decoding.proofs.kind_in.Reads as kind-in-reads
-use Rattle.locked.proofs.at_once.Reads as at-once-reads
-use Rattle.diagrams.proofs.may_follow.Reads as may-follow-reads
-use Rattle.locked.proofs.general_step.Reads as general-step-reads
-use Rattle.scrambler.proofs.descramble.Reads as descramble-reads
 
--- src/locked.rt:387:8
 add-if1 : tie.Need-add-if1
 add-if1 c = search needs
 
--- src/locked.rt:388:12
 add-if2 : tie.Need-add-if2
 add-if2 c = search needs
 
--- src/locked.rt:389:17
 one-at-requires : tie.Need-one-at-requires
 one-at-requires c κs = search needs
 
--- src/locked.rt:390:17
 descramble-requires : tie.Need-descramble-requires
 descramble-requires c κs = search needs
 
--- src/locked.rt:391:17
 at-once-requires : tie.Need-at-once-requires
 at-once-requires c κs = search needs
 
--- src/locked.rt:395:39
 kind-in-requires : tie.Need-kind-in-requires
 kind-in-requires c κs = search needs
 
--- src/locked.rt:395:21
 may-follow-requires : tie.Need-may-follow-requires
 may-follow-requires c κs = search needs
 
--- src/locked.rt:396:17
 general-step-requires : tie.Need-general-step-requires
 general-step-requires c κs =
     let line = now (c .before .before .before .before .before .before .before .before .before .before .before .before .before .before .before .before .before .args .line) in
@@ -77,25 +60,20 @@ general-step-requires c κs =
       c .before .before .before .before .before .before .descramble .ensures .1,
     )
 
--- src/locked.rt:396:17
 same-length : tie.Need-same-length
 same-length c = search needs
 
--- src/locked.rt:396:17
 returns : tie.Need-returns
 returns c =
     let s = c .before .before .general-step .ensures in
     (stretch-turn (now (c .before .before .before .before .before .before .before .before .before .before .before .before .before .before .before .before .before .before .before .before .args .line)) (now (c .before .before .before .before .before .before .before .before .before .before .before .before .before .before .before .before .before .before .before .before .args .room)) (c .before .before .general-step .last .1 .0) (c .before .before .before .before .before .before .before .before .before .before .before .before .before .before .before .before .before .before .before .before .args .p) (c .before .before .general-step .result) (s .turns) (omega (arith, s .pos, c .before .before .before .before .before .before .before .before .before .before .before .before .before .if1 .taken)), s .lock)
 
--- src/locked.rt:380:1
 returns-2 : tie.Need-returns-2
 returns-2 c = search needs
 
--- src/locked.rt:380:1
 returns-3 : tie.Need-returns-3
 returns-3 c = search needs
 
--- src/locked.rt:380:1
 returns-4 : tie.Need-returns-4
 returns-4 c = search needs
 

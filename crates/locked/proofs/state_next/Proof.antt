@@ -5,20 +5,13 @@ use Rattle.diagrams.specs.Diagram.{diagramOf}
 use borrow.Author.Needs.{needs}
 use Rattle.locked.proofs.state_next.Statement.{statement}
 use Rattle.locked.proofs.state_next.Tie as tie
-use Rattle.locked.proofs.state_next.Reads as reads
-use Rattle.locked.proofs.state_next.Lts as lts
-use Rattle.decoding.proofs.kind_in.Reads as kind-in-reads
-use Rattle.diagrams.proofs.diagram_step.Reads as diagram-step-reads
 
--- src/locked.rt:132:25
 kind-in-requires : tie.Need-kind-in-requires
 kind-in-requires c κs = search needs
 
--- src/locked.rt:132:5
 diagram-step-requires : tie.Need-diagram-step-requires
 diagram-step-requires c κs = search needs
 
--- src/locked.rt:125:1
 returns : tie.Need-returns
 returns c = c .diagram-step .ensures ∙ ap (λ (k : Kind). diagramOf (c .before .before .before .before .args .p .receiver .state) k false) (c .before .kind-in .ensures)
 

@@ -1,39 +1,28 @@
 use mathlib.Core.Path.{refl}
-use native.Mathlib.Omega.{arith}
 use denote.Ref.{now}
 use Rattle.locked.proofs.InLock.{one-fits, under-wide, step-steady}
 use borrow.Author.Needs.{needs}
 use Rattle.locked.proofs.steady_step.Statement.{statement}
 use Rattle.locked.proofs.steady_step.Tie as tie
-use Rattle.locked.proofs.steady_step.Reads as reads
-use Rattle.locked.proofs.steady_step.Lts as lts
-use Rattle.receiving.proofs.counting.count_vector.Reads as count-vector-reads
-use Rattle.locked.proofs.advanced.Reads as advanced-reads
-use Rattle.vectors.proofs.put_vector.Reads as put-vector-reads
 
--- src/locked.rt:206:5
 add-end : tie.Need-add-end
 add-end c = search (needs, one-fits (now (c .before .before .before .args .line)) (now (c .before .before .before .args .room)) (c .before .before .before .args .p) (c .before .before .before .args .b .header) (c .before .before .before .args .b .payload) (c .before .before .before .pre .1) (c .before .before .before .args .class) (c .before .before .before .args .vector) (c .before .before .before .pre .2))
 
 put-vector-requires : tie.Need-put-vector-requires
 put-vector-requires c κs = one-fits (now (c .before .before .before .before .before .before .before .before .args .line)) (now (c .before .before .before .before .before .before .before .before .args .room)) (c .before .before .before .before .before .before .before .before .args .p) (c .before .before .before .before .before .before .before .before .args .b .header) (c .before .before .before .before .before .before .before .before .args .b .payload) (c .before .before .before .before .before .before .before .before .pre .1) (c .before .before .before .before .before .before .before .before .args .class) (c .before .before .before .before .before .before .before .before .args .vector) (c .before .before .before .before .before .before .before .before .pre .2)
 
--- src/locked.rt:207:9
 count-vector-requires : tie.Need-count-vector-requires
 count-vector-requires c κs = search needs
 
--- src/locked.rt:208:5
 advanced-requires : tie.Need-advanced-requires
 advanced-requires c κs =
     let u = c .before .before .before .before .before .before .before .before .before .before .before .before .pre .1 .under in
     let w = under-wide (now (c .before .before .before .before .before .before .before .before .before .before .before .before .args .line)) (now (c .before .before .before .before .before .before .before .before .before .before .before .before .args .room)) (c .before .before .before .before .before .before .before .before .before .before .before .before .args .p) u (c .before .before .before .before .before .before .before .before .before .before .before .before .pre .0) in
     (w .0, refl, w .1, u .range .tested, u .range .invalid, c .before .before .before .before .before .before .before .before .before .before .before .before .pre .1 .more, c .before .before .before .before .before .before .before .before .before .before .before .before .pre .1 .lock)
 
--- src/locked.rt:188:1
 same-length : tie.Need-same-length
 same-length c = search needs
 
--- src/locked.rt:188:1
 returns : tie.Need-returns
 returns c =
     step-steady (now (c .before .before .before .before .before .before .before .before .before .before .before .before .before .args .line)) (now (c .before .before .before .before .before .before .before .before .before .before .before .before .before .args .room)) (c .before .before .before .before .before .before .before .before .before .before .before .before .before .args .p) (c .before .before .before .before .before .before .before .before .before .before .before .before .before .args .b .header) (c .before .before .before .before .before .before .before .before .before .before .before .before .before .args .b .payload) (c .before .before .before .before .before .before .before .before .before .before .before .before .before .pre .1) (c .before .before .before .before .before .before .before .before .before .before .before .before .before .args .class) (c .before .before .before .before .before .before .before .before .before .before .before .before .before .args .vector) (c .before .before .before .before .before .before .before .before .before .before .before .before .before .pre .2)
