@@ -183,6 +183,19 @@ module _ (m a : ℕ) where
   sent-at x h n hb p =
       ap (λ (z : ℕ). mix m a z (x n)) (history-line x h n) ∙ mix-at m (sent m a x h) (sent-lt m a x h) h hb a n (x n) p
 
+  -- .. and from the place m + 1 on also three input bits and the sent bits 2 a and 2 (m + 1) places before: what both bits before have falls out
+  pub sent-squared : (x : ℕ → ℕ) (h n : ℕ) → h < 2 ^ suc m → 0 < a → a ≤ suc m → suc m ≤ n
+      → sent m a x h n
+      ≡ (x n + x (n - a) + x (n - suc m) + whole m h (sent m a x h) (n - a + (suc m - a)) + whole m h (sent m a x h) (n - suc m)) % 2
+  sent-squared x h n hb p la ln =
+      let w = whole m h (sent m a x h) in
+      let near : w (n + (suc m - a)) ≡ sent m a x h (n - a) = whole-high m h (sent m a x h) (n + (suc m - a)) (n - a) (omega arith) in
+      let far : w n ≡ sent m a x h (n - suc m) = whole-high m h (sent m a x h) n (n - suc m) (omega arith) in
+      let both : n - suc m + (suc m - a) ≡ n - a = omega arith in
+      let f : sent m a x h (n - suc m) ≡ (x (n - suc m) + w (n - a) + w (n - suc m)) % 2 =
+      sent-at x h (n - suc m) hb p ∙ ap (λ (i : ℕ). (x (n - suc m) + w i + w (n - suc m)) % 2) both in
+      omega (arith, sent-at x h n hb p, near, far, sent-at x h (n - a) hb p, f)
+
   -- ---- there and back, on a whole stream
   pub round-trip : (x : ℕ → ℕ) (h n : ℕ) → x n < 2 → got m a (sent m a x h) h n ≡ x n
   unfolding got sent

@@ -13,6 +13,11 @@ pub scramble-unique : (payload history : ℕ) (r s : Scrambled)
     → (s .word ≡ scrambled payload history) × (s .history ≡ historyAfter payload history) → r ≡ s
 scramble-unique payload history r s p q = same r s (p .0 ∙ sym (q .0)) (p .1 ∙ sym (q .1))
 
+pub scramble-next-unique : (payload before sent history : ℕ) (r s : Scrambled)
+    → (r .word ≡ scrambled payload (historyAfter before history)) × (r .history ≡ historyAfter payload (historyAfter before history))
+    → (s .word ≡ scrambled payload (historyAfter before history)) × (s .history ≡ historyAfter payload (historyAfter before history)) → r ≡ s
+scramble-next-unique payload before sent history r s p q = same r s (p .0 ∙ sym (q .0)) (p .1 ∙ sym (q .1))
+
 pub descramble-unique : (word history : ℕ) (r s : Scrambled)
     → (r .word ≡ descrambled word history) × (r .history ≡ lineAfter word history)
     → (s .word ≡ descrambled word history) × (s .history ≡ lineAfter word history) → r ≡ s

@@ -3,14 +3,18 @@ use mathlib.Core.Path.{_≡_, refl, sym, ap, _∙_}
 use Prim.Native.Nat.{ℕ, _+_, _-_, _*_, _/_, _%_, _^_, _≤_, _<_}
 use native.Mathlib.Nat.{add-zero, add-comm, mod-lt, div-one}
 use native.Mathlib.Omega.{arith}
-use lib.Bits.{bitXor, xor-lt}
+use lib.Bits.{bitOr, bitXor, or-lt, xor-lt}
 use lib.Pow.{pow-pos}
 use Rattle.bits.specs.Bits.{bit}
-use Rattle.bits.proofs.Laws.{bit-lt, by-lt, bit-shr, bit-high, shifted-low, shifted-high, bit-xor, bit-sum, xor-sum, is-number, same-bits}
+use Rattle.bits.proofs.Laws.{bit-lt, by-lt, bit-shr, bit-high, bit-or, shifted-low, shifted-high, bit-xor, bit-sum, xor-sum, is-number, same-bits}
 use Rattle.register.specs.Register.{sent, pushes, got, whole}
 use Rattle.register.proofs.Strides.{sent-own}
 use Rattle.register.proofs.Laws.{sent-lt, whole-low, whole-high, past, pushes-lt, history-line, sent-at, got-at}
 use Rattle.scrambler.specs.Scrambler.{scrambled, historyAfter, descrambled, lineAfter}
+
+-- an or of two numbers that share no bit has the bits of both
+pub or-sum : (a b n t : ℕ) → t < 2 → t ≡ bit a n + bit b n → bit (bitOr b a) n ≡ t % 2
+or-sum a b n t l e = omega (arith, bit-or b a n)
 
 module _ (h : ℕ) (hb : h < 2 ^ 58) where
   -- 64 bits of the stream from place s on, as words: the history shifted right, and the line shifted left, of which v has what is needed
@@ -27,6 +31,13 @@ module _ (h : ℕ) (hb : h < 2 ^ 58) where
       whole-high 57 h y (n + s) (n - (58 - s)) (omega arith) ∙ e (n - (58 - s)) (omega arith) in
       let b : bit (h / 2 ^ s) n ≡ 0 = bit-shr h s n ∙ bit-high h 58 (s + n) hb (omega arith) in
       omega (arith, a, b, shifted-high v (58 - s) n nl m))
+
+  -- the bits of the stream are bits
+  stream-bit : (y : ℕ → ℕ) → ((i : ℕ) → y i < 2) → (k : ℕ) → whole 57 h y k < 2
+  stream-bit y yb k =
+      by-lt k 58
+      (λ l. omega (arith, whole-low 57 h y k (omega arith), bit-lt h k))
+      (λ l. omega (arith, whole-high 57 h y k (k - 58) (omega arith), yb (k - 58)))
 
   -- the history after a word is its highest 58 bits
   pub top : (w : ℕ) (y : ℕ → ℕ) → ((n : ℕ) → y n < 2) → w < 2 ^ 64 → ((i : ℕ) → i < 64 → bit w i ≡ y i) → w / 2 ^ 6 ≡ pushes 57 y h 64
@@ -86,24 +97,22 @@ module _ (h : ℕ) (hb : h < 2 ^ 58) where
   module _ (w : ℕ) (wb : w < 2 ^ 64) where
     -- the payload, as it is worked out
     abbrev pub unmixed : ℕ
-    unmixed = bitXor (bitXor (bitXor (bitXor w (h / 2 ^ 19)) (w * 2 ^ 39 % 2 ^ 64)) h) (w * 2 ^ 58 % 2 ^ 64)
+    unmixed = bitXor (bitXor w (bitOr (w * 2 ^ 39 % 2 ^ 64) (h / 2 ^ 19))) (bitOr (w * 2 ^ 58 % 2 ^ 64) h)
 
     unmixed-lt : unmixed < 2 ^ 64
     unmixed-lt =
         xor-lt 64 _ _
-        (xor-lt 64 _ h (xor-lt 64 _ _ (xor-lt 64 w (h / 2 ^ 19) wb (omega arith)) (mod-lt (w * 2 ^ 39) (pow-pos 64))) (omega arith))
-        (mod-lt (w * 2 ^ 58) (pow-pos 64))
+        (xor-lt 64 w _ wb (or-lt 64 _ _ (mod-lt (w * 2 ^ 39) (pow-pos 64)) (omega arith)))
+        (or-lt 64 _ _ (mod-lt (w * 2 ^ 58) (pow-pos 64)) (omega arith))
 
     unmixed-at : (n : ℕ) → n < 64 → bit unmixed n ≡ got 57 39 (bit w) h n
     unmixed-at n l =
         let a : whole 57 h (bit w) (n + 19) ≡ bit (h / 2 ^ 19) n + bit (w * 2 ^ 39 % 2 ^ 64) n = window (bit w) w 19 n (omega arith) l (λ i m. refl) in
-        let b : whole 57 h (bit w) n ≡ bit (h / 2 ^ 0) n + bit (w * 2 ^ 58 % 2 ^ 64) n = ap (whole 57 h (bit w)) (sym (add-zero n)) ∙ window (bit w) w 0 n (omega arith) l (λ i m. refl) in
-        let s : bit unmixed n ≡ (bit w n + bit (h / 2 ^ 19) n + bit (w * 2 ^ 39 % 2 ^ 64) n + bit h n + bit (w * 2 ^ 58 % 2 ^ 64) n) % 2 =
-        xor-sum _ _ n _ _ (xor-sum _ h n _ _ (xor-sum _ _ n _ _ (xor-sum w _ n _ _ (bit-sum w n) (bit-sum _ n)) (bit-sum _ n)) (bit-sum h n)) (bit-sum _ n) in
-        let t : bit w n + bit (h / 2 ^ 19) n + bit (w * 2 ^ 39 % 2 ^ 64) n + bit h n + bit (w * 2 ^ 58 % 2 ^ 64) n
-        ≡ bit w n + whole 57 h (bit w) (n + 19) + whole 57 h (bit w) n =
-        omega (arith, a, b, ap (λ (x : ℕ). bit x n) (div-one h)) in
-        s ∙ ap (λ (x : ℕ). x % 2) t ∙ sym (got-at 57 (bit w) (bit-lt w) h hb 39 n (omega arith))
+        let b : whole 57 h (bit w) n ≡ bit h n + bit (w * 2 ^ 58 % 2 ^ 64) n =
+        ap (whole 57 h (bit w)) (sym (add-zero n)) ∙ window (bit w) w 0 n (omega arith) l (λ i m. refl) ∙ ap (λ (x : ℕ). bit x n + bit (w * 2 ^ 58 % 2 ^ 64) n) (div-one h) in
+        let near = or-sum (h / 2 ^ 19) (w * 2 ^ 39 % 2 ^ 64) n _ (stream-bit (bit w) (bit-lt w) (n + 19)) a in
+        let far = or-sum h (w * 2 ^ 58 % 2 ^ 64) n _ (stream-bit (bit w) (bit-lt w) n) b in
+        xor-sum _ _ n _ _ (xor-sum w _ n _ _ (bit-sum w n) near) far ∙ sym (got-at 57 (bit w) (bit-lt w) h hb 39 n (omega arith))
 
     -- it is the one that is defined
     pub descramble-word : unmixed ≡ descrambled w h

@@ -24,12 +24,27 @@ pub fn scramble(payload: u64, history: u64) -> Scrambled
     }
 }
 
+// The payload after another one, which was sent as this word after this history. A sent bit is the sum of its input bit and those sent 39 and 58
+// places before; each of these is a sum in turn, and the bit 97 places before, which both have, falls out. So it is also the sum of the input
+// bits 0, 39 and 58 places before and of those sent 78 and 116 before: a shorter way from one sent word to the next.
+pub fn scramble_next(payload: u64, before: u64, sent: u64, history: u64) -> Scrambled
+    requires { ⌜ (history < 2 ^ 58) × (sent ≡ scrambled before history) ⌝ }
+    ensures { λ r. ⌜ (r .word ≡ scrambled payload (historyAfter before history)) × (r .history ≡ historyAfter payload (historyAfter before history)) ⌝ }
+{
+    let inputs = payload ^ ((payload << 39) | (before >> 25)) ^ ((payload << 58) | (before >> 6));
+    let word = inputs ^ (history >> 44) ^ (history >> 6) ^ (sent << 14) ^ (sent << 52);
+    Scrambled {
+        word: word,
+        history: word >> 6,
+    }
+}
+
 // The payload of 64 line bits, all at once: each is known, so each is xored with those 39 and 58 places before.
 pub fn descramble(word: u64, history: u64) -> Scrambled
     requires { ⌜ history < 2 ^ 58 ⌝ }
     ensures { λ r. ⌜ (r .word ≡ descrambled word history) × (r .history ≡ lineAfter word history) ⌝ }
 {
-    let input = word ^ (history >> 19) ^ (word << 39) ^ history ^ (word << 58);
+    let input = word ^ ((word << 39) | (history >> 19)) ^ ((word << 58) | history);
     Scrambled {
         word: input,
         history: word >> 6,
