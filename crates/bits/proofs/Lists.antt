@@ -6,7 +6,7 @@ use native.Mathlib.Nat.{zero-add, mul-comm, mul-suc, le-div-iff-mul-le}
 use native.Mathlib.Omega.{arith}
 use lib.ListN.{length, getD, take, drop, length-append, List·getD-eq-default}
 use lib.Pow.{pow-pos}
-use lib.Seq.{drop-cons}
+use lib.Seq.{drop-cons, getD-take, getD-drop}
 use Rattle.bits.specs.Bits.{bit, number, streamBit, cut, listed, lineBit, lineBits}
 use Rattle.bits.proofs.Laws.{bit-none, by-lt, number-lt, number-same, stream-lt, stream-head, stream-tail, stream-cut, length-cut, cut-same, Words, none, more}
 
@@ -167,6 +167,13 @@ lineBit-is line n b j e l =
     let d : n / 8 ≡ b = omega arith in
     let m : n % 8 ≡ j = omega arith in
     ap₂ (λ (x y : ℕ). bit (getD line x 0) y) d m
+
+-- the bits of some bytes of a line
+pub lineBit-part : (line : List ℕ) (n at i : ℕ) → i < 8 * n → lineBit (take n (drop at line)) i ≡ lineBit line (8 * at + i)
+lineBit-part line n at i l =
+    lineBit-is (take n (drop at line)) i (i / 8) (i % 8) (omega arith) (omega arith)
+    ∙ ap (λ (x : ℕ). bit x (i % 8)) (getD-take n (drop at line) (i / 8) 0 (omega arith) ∙ getD-drop at line (i / 8) 0)
+    ∙ sym (lineBit-is line (8 * at + i) (at + i / 8) (i % 8) (omega arith) (omega arith))
 
 -- eight bits a byte
 pub length-lineBits : (line : List ℕ) → length (lineBits line) ≡ 8 * length line

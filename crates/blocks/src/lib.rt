@@ -43,7 +43,7 @@ pub fn one_at(s: &[u8], pos: usize) -> Block
 
 // The four blocks from bit 8 * at + sh on: block i begins at bit sh + 2 * i of word i, so four words and two bytes have them all. A word is
 // shifted to its header, and from there to its payload.
-pub fn four_at(s: &[u8], at: usize, sh: usize) -> Four
+fn four_from(s: &[u8], at: usize, sh: usize) -> Four
     requires { ⌜ (at + 34 ≤ length (now s)) × (sh < 8) ⌝ }
     ensures { λ r. ⌜ Fours (now (s .entry)) (8 * at + sh) r ⌝ }
 {
@@ -61,5 +61,22 @@ pub fn four_at(s: &[u8], at: usize, sh: usize) -> Four
         b: (b >> 2) | (y << (60 - sh)),
         c: (c >> 2) | (z << (58 - sh)),
         d: (d >> 2) | (last << (56 - sh)),
+    }
+}
+
+// The same, with numbers for sh: the compiler knows each shift then.
+pub fn four_at(s: &[u8], at: usize, sh: usize) -> Four
+    requires { ⌜ (at + 34 ≤ length (now s)) × (sh < 8) ⌝ }
+    ensures { λ r. ⌜ Fours (now (s .entry)) (8 * at + sh) r ⌝ }
+{
+    match sh {
+        0 => four_from(s, at, 0),
+        1 => four_from(s, at, 1),
+        2 => four_from(s, at, 2),
+        3 => four_from(s, at, 3),
+        4 => four_from(s, at, 4),
+        5 => four_from(s, at, 5),
+        6 => four_from(s, at, 6),
+        _ => four_from(s, at, sh),
     }
 }

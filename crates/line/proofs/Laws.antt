@@ -11,7 +11,7 @@ use lib.Pow.{pow-add, pow-pos, shr-le}
 use lib.Bits.{bitOr, or-lt}
 use Rattle.bits.specs.Bits.{bit, number, lineBit, streamBit, cut}
 use Rattle.bits.proofs.Laws.{by-lt, bit-above, bit-below, is-number, bit-number, number-lt, number-same, number-add, bit-shr, bit-high, bit-or, bit-mod, shifted-low, shifted-high, stream-head, stream-tail, cut-same}
-use Rattle.bits.proofs.Lists.{lineBit-lt, lineBit-is, cut-add}
+use Rattle.bits.proofs.Lists.{lineBit-lt, lineBit-is, lineBit-part, cut-add}
 
 -- ---- reading
 -- the k bytes of s from at on as one number, the lowest byte first
@@ -71,6 +71,13 @@ halves s at lo hi p q =
     ap₂ (λ (x y : ℕ). x + y * 2 ^ 32) p
     (q ∙ number-same 32 (λ i. lineBit s (8 * (at + 4) + i)) (λ i. lineBit s (8 * at + (32 + i))) (λ i l. ap (lineBit s) (e i)))
     ∙ sym (number-add 32 32 (λ i. lineBit s (8 * at + i)))
+
+-- .. which were taken out
+pub part-halves : (s : List ℕ) (at n lo hi : ℕ) → n ≡ 8 → lo ≡ number 32 (λ i. lineBit (take n (drop at s)) (8 * 0 + i))
+    → hi ≡ number 32 (λ i. lineBit (take n (drop at s)) (8 * (0 + 4) + i)) → lo + hi * 2 ^ 32 ≡ number 64 (λ i. lineBit s (8 * at + i))
+part-halves s at n lo hi e p q =
+    halves (take n (drop at s)) 0 lo hi p q
+    ∙ number-same 64 (λ i. lineBit (take n (drop at s)) (8 * 0 + i)) (λ i. lineBit s (8 * at + i)) (λ i l. ap (lineBit (take n (drop at s))) (zero-add i) ∙ lineBit-part s n at i (omega arith))
 
 -- eight bytes and the byte after them, joined at any place
 pub join : (s : List ℕ) (pos at sh lo hi : ℕ) → pos ≡ 8 * at + sh → 0 < sh → sh < 8
