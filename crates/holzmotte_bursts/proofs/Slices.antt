@@ -41,9 +41,9 @@ both-long summary counters e =
     let n = neither (tooShort 8 receiveLength summary) (tooShort 4 8 counters) e in
     (ltb-false summary 96 (n .0), ltb-false counters 32 (n .1))
 
--- ---- either call: a burst, or the closing call, which has no line bytes
+-- ---- either call: a burst, or the closing call
 
--- its bytes
+-- its line bytes: the closing call has none
 abbrev bytes : Bool → (line : List ℕ) → ℕ
 bytes closing line = cond closing 0 (length line)
 
@@ -51,7 +51,7 @@ bytes closing line = cond closing 0 (length line)
 abbrev comes : Bool → State → (line room : List ℕ) → Called
 comes closing s line room = cond closing (closeCall s room) (burstCall s line room)
 
--- and where it is accepted
+-- what it comes to where it is accepted
 abbrev done : Bool → State → (line room : List ℕ) → Called
 done closing s line room = cond closing (closeDone s room) (burstDone s line room)
 
@@ -61,7 +61,7 @@ unfolding burstCall closeCall
 comes-by true s line room = refl
 comes-by false s line room = refl
 
--- its summary there
+-- the summary of an accepted one
 abbrev sum : Bool → State → (line : List ℕ) → Summary
 sum closing s line = cond closing (summaryIn (closeState s) (judgedAlone (closeJudged s))) (summaryIn (burstState s line) false)
 
@@ -73,6 +73,7 @@ done-says false s line room = refl
 abbrev left : Bool → (state line vectors summary counters : List ℕ) → Left
 left closing state line vectors summary counters = cond closing (closeLeft state vectors summary counters) (burstLeft state line vectors summary counters)
 
+-- by the verdict
 abbrev leftFor : Verdict → Bool → (state line vectors summary counters : List ℕ) → Left
 leftFor v closing state line vectors summary counters =
     byVerdict v (leaves state summary counters (comes closing (stateIn state) line vectors)) (spares state vectors summary counters)
@@ -103,7 +104,7 @@ module _ (closing : Bool) (state line vectors summary counters : List ℕ) where
 
 -- ---- a state long enough: the call is made, with no room where the summary or the counters are too short
 
--- the part of a room that is lent
+-- none of a room or all of it is lent, as a part of it
 module _ (vectors : List ℕ) (short : Bool) (n : ℕ) (en : n ≡ cond short 0 (length vectors)) where
   lent-is : (b : Bool) → short ≡ b → n - 0 ≡ cond b 0 (length vectors)
   lent-is b e = sub-zero n ∙ en ∙ ap (λ (x : Bool). cond x 0 (length vectors)) e
@@ -114,7 +115,7 @@ module _ (vectors : List ℕ) (short : Bool) (n : ℕ) (en : n ≡ cond short 0 
   lent-all : short ≡ false → midOf 0 (n - 0) vectors ≡ vectors
   lent-all e = ap (λ (k : ℕ). midOf 0 k vectors) (lent-is false e) ∙ take-length vectors
 
-  -- and comes back
+  -- all of it comes back
   back-all : (room′ : List ℕ) → short ≡ false → putMid 0 (n - 0) vectors room′ ≡ room′
   back-all room′ e = ap (λ (k : ℕ). putMid 0 k vectors room′) (lent-is false e) ∙ ap (λ (x : List ℕ). room′ ++ x) (drop-length vectors) ∙ append-nil room′
 
@@ -124,11 +125,11 @@ module _ (closing : Bool) (state line vectors summary counters : List ℕ) (s : 
   abbrev room : List ℕ
   room = midOf 0 (n - 0) vectors
 
-  -- its verdict
+  -- its own verdict
   abbrev own : Verdict
   own = burstVerdict s (bytes closing line) (length room)
 
-  -- is that through C
+  -- which is that on the call through C
   judged-is : judged closing state line vectors summary counters ≡ own
   judged-is = by short refl
     where
@@ -163,7 +164,7 @@ module _ (closing : Bool) (state line vectors summary counters : List ℕ) (s : 
     fits-by (refused k p) v =
         subst (λ (a : ReceiveAnswer). Fits a (length summary) (length counters)) (sym (refused-is k p v)) (omega (arith, place-zero s (bytes closing line) (length room) k p v))
 
-    -- fits the slices
+    -- the answer fits
     pub call-fits : Fits (answerOf (r .answer)) (length summary) (length counters)
     call-fits = fits-by own refl
 
@@ -189,7 +190,7 @@ module _ (closing : Bool) (state line vectors summary counters : List ℕ) (s : 
           let same : room′ ≡ room = w .3 ∙ ap (λ (x : Called). x .room) (comes-for (refused k p) v) in
           (m .0, m .1, ap (putMid 0 (n - 0) vectors) same ∙ put-same 0 (n - 0) vectors, m .2, m .3)
 
-      -- and what it leaves
+      -- so the promise is kept
       pub call-leaves : Leaves (left closing state line vectors summary counters) z state′ (putMid 0 (n - 0) vectors room′) summary′ counters′
       call-leaves =
           subst (λ (x : Left). Leaves x z state′ (putMid 0 (n - 0) vectors room′) summary′ counters′) (sym (left-for closing state line vectors summary counters own judged-is)) (leaves-by own refl)
