@@ -70,7 +70,7 @@ fn lent(room: usize, short: bool) -> usize
     if short { 0 } else { room }
 }
 
-// A burst, or the closing call.
+// A burst, or the closing call: one function for both, as `continued` is.
 fn called(
     state: &mut [u8],
     line: &[u8],
