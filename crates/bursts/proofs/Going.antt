@@ -1,4 +1,5 @@
--- An accepted burst and an accepted closing call, from the receiver that the state means; and a refused one. Assumes nothing.
+-- An accepted burst and an accepted closing call, from the receiver that the state means; a refused one; and either of
+-- the two. Assumes nothing.
 use Prim.Native.Nat.{ℕ, _+_, _*_, _/_, _≤_}
 use mathlib.Core.Path.{_≡_, refl, sym, ap, ap₂, _∙_, subst}
 use mathlib.Core.Bool.{Bool, true, false, cond}
@@ -318,10 +319,24 @@ closed-is s n held handed last en ek eh el =
 
 module _ (s : State) (line room : List ℕ) (n : ℕ) (z : Reply) (es : z .state ≡ s) (ea : answerOf (z .answer) ≡ Answer.refused n 0)
     (ed : z .added ≡ record { counts = noCounts; handed = noneHanded }) where
-  pub burst-refused : refused n 0 ≡ burstVerdict s (length line) (length room) → Replies (burstCall s line room) z room
+  burst-refused : refused n 0 ≡ burstVerdict s (length line) (length room) → Replies (burstCall s line room) z room
   unfolding burstCall refuses
   burst-refused e = (rw (← e) es, rw (← e) ea, rw (← e) ed, rw (← e))
 
-  pub close-refused : refused n 0 ≡ burstVerdict s 0 (length room) → Replies (closeCall s room) z room
+  close-refused : refused n 0 ≡ burstVerdict s 0 (length room) → Replies (closeCall s room) z room
   unfolding closeCall refuses
   close-refused e = (rw (← e) es, rw (← e) ea, rw (← e) ed, rw (← e))
+
+  pub either-refused : (closing : Bool) (bytes : ℕ) → bytes ≡ cond closing 0 (length line) → refused n 0 ≡ burstVerdict s bytes (length room)
+      → Replies (cond closing (closeCall s room) (burstCall s line room)) z room
+  either-refused true bytes e v = close-refused (v ∙ ap (λ (k : ℕ). burstVerdict s k (length room)) e)
+  either-refused false bytes e v = burst-refused (v ∙ ap (λ (k : ℕ). burstVerdict s k (length room)) e)
+
+-- ---- either call, once it is known which
+
+module _ (s : State) (line room : List ℕ) (closing b : Bool) (e : closing ≡ b) where
+  pub which-passes : (bytes : ℕ) → bytes ≡ cond closing 0 (length line) → burstVerdict s bytes (length room) ≡ accepted → burstVerdict s (cond b 0 (length line)) (length room) ≡ accepted
+  which-passes bytes h v = sym (ap (λ (k : ℕ). burstVerdict s k (length room)) (h ∙ ap (λ (x : Bool). cond x 0 (length line)) e)) ∙ v
+
+  pub which-replies : (z : Reply) (room₁ : List ℕ) → Replies (cond b (closeCall s room) (burstCall s line room)) z room₁ → Replies (cond closing (closeCall s room) (burstCall s line room)) z room₁
+  which-replies z room₁ r = subst (λ (x : Bool). Replies (cond x (closeCall s room) (burstCall s line room)) z room₁) (sym e) r

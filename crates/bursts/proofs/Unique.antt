@@ -2,6 +2,7 @@
 -- nothing.
 use Prim.Native.Nat.{ℕ}
 use mathlib.Core.Path.{_≡_, sym, ap, _∙_}
+use mathlib.Core.Bool.{Bool, cond}
 use mathlib.Core.List.{List}
 use native.Mathlib.Omega.{arith}
 use Rattle.refusals.proofs.Laws.{number-injective}
@@ -48,3 +49,8 @@ burst-unique s line room room₁ room₂ a b p q = same (burstCall s line room) 
 -- `close`
 pub close-unique : (s : State) (room room₁ room₂ : List ℕ) (a b : Reply) → Replies (closeCall s room) a room₁ → Replies (closeCall s room) b room₂ → (a ≡ b) × (room₁ ≡ room₂)
 close-unique s room room₁ room₂ a b p q = same (closeCall s room) a b room₁ room₂ p q
+
+-- `continued`
+pub continued-unique : (s : State) (line room room₁ room₂ : List ℕ) (closing : Bool) (a b : Reply)
+    → Replies (cond closing (closeCall s room) (burstCall s line room)) a room₁ → Replies (cond closing (closeCall s room) (burstCall s line room)) b room₂ → (a ≡ b) × (room₁ ≡ room₂)
+continued-unique s line room room₁ room₂ closing a b p q = same (cond closing (closeCall s room) (burstCall s line room)) a b room₁ room₂ p q

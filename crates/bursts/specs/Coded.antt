@@ -16,6 +16,7 @@ use Rattle.bursts.specs.declared.State.{State}
 use Rattle.bursts.specs.declared.judging.Judged.{Judged}
 use Rattle.bursts.specs.declared.judging.Judged.the-variants.{Accepted, Refused}
 use Rattle.bursts.specs.Meaning.{feedIn, diagramIn, heldIn, keptFor}
+use Rattle.bursts.specs.Judging.{burstVerdict}
 
 -- the verdict that a judgement says
 abbrev pub verdictOf : Judged → Verdict
@@ -29,6 +30,11 @@ pub record Means (s : State) (r : Receiver) : Type 0 where
   pub sound : Sound (r .carried)
   pub state : r .state ≡ diagramIn s
   pub held : Loop.heldIn r ≡ heldIn s
+
+-- the checks accept a call of so many line bytes with so much room, and a receiver is what its state means
+pub record Ready (s : State) (line room : ℕ) (r : Receiver) : Type 0 where
+  pub passes : burstVerdict s line room ≡ accepted
+  pub means : Means s r
 
 -- no sum of a state's numbers with those of a receiver's progress is large
 pub record Fits (s : State) (line : ℕ) (p : Progress) : Type 0 where

@@ -6,6 +6,7 @@ use receiving::Counts;
 use receiving::Handed;
 use receiving::Progress;
 use receiving::Received;
+use receiving::Receiver;
 use receiving::Summary;
 use reception::receive_last;
 use reception::receive_more;
@@ -14,6 +15,7 @@ ghost use mathlib.Core.Path.{_≡_};
 ghost use mathlib.Core.Bool.{cond};
 ghost use mathlib.Core.List.{[]};
 ghost use Prim.Native.Nat.{_≤_};
+ghost use lib.ListN.{length};
 ghost use Rattle.refusals.specs.Number.{numberOf};
 ghost use Rattle.receiving.specs.Receive.{handedOf};
 ghost use Rattle.receiving.specs.Answer.{received, answerOf};
@@ -22,7 +24,7 @@ ghost use Rattle.receiving.specs.Parts.{noCounts, plus, noneHanded, plusHanded}
 ghost use Rattle.receiving.specs.Counted.{Within, HandedWithin};
 ghost use Rattle.bursts.specs.Burst.{Begins, closeJudged, closeState, summaryIn, Replies, burstCall, closeCall};
 ghost use Rattle.bursts.specs.Meaning.{keptFor};
-ghost use Rattle.bursts.specs.Coded.{Fits, progressed};
+ghost use Rattle.bursts.specs.Coded.{Ready, Fits, progressed};
 
 // judging.rt: refusals 13, 9, 10, 1 and 4
 mod judging;
@@ -263,23 +265,6 @@ fn refused(s: State, why: Refusal) -> Reply
     }
 }
 
-// One more part of a line: the vectors of all blocks but the last go to the room, from its start.
-pub fn burst(s: State, line: &[u8], room: &mut [u8]) -> Reply
-    ensures { λ r. ⌜ Replies (burstCall s (now (line .entry)) (now (room .entry))) r (now (room .exit)) ⌝ }
-{
-    match judging::judge(s, line.len(), room.len()) {
-        judging::Judged::Refused(why) => refused(s, why),
-        judging::Judged::Accepted => {
-            let start = meaning::receiver_of(s);
-            let p = receive_more(line, room, start);
-            let next = next_state(s, line.len(), p);
-            let counts = p.counts;
-            let handed = p.handed;
-            accepted(next, false, counts, handed)
-        }
-    }
-}
-
 // 1 where a block is held.
 fn one_if(have: bool) -> u64
     ensures { λ r. ⌜ (r ≡ cond have 1 0) × (r ≤ 1) ⌝ }
@@ -317,18 +302,64 @@ fn closed_state(s: State, last: Handed) -> State
     }
 }
 
+// How many line bytes a call takes; the closing call takes none.
+fn taken(line: usize, closing: bool) -> usize
+    ensures { λ r. ⌜ r ≡ cond closing 0 line ⌝ }
+{
+    if closing { 0 } else { line }
+}
+
+// An accepted burst, from the receiver that its state means.
+fn burst_from(s: State, line: &[u8], room: &mut [u8], start: Receiver) -> Reply
+    requires { ⌜ Ready s (length (now line)) (length (now room)) start ⌝ }
+    ensures { λ r. ⌜ Replies (burstCall s (now (line .entry)) (now (room .entry))) r (now (room .exit)) ⌝ }
+{
+    let p = receive_more(line, room, start);
+    let next = next_state(s, line.len(), p);
+    let counts = p.counts;
+    let handed = p.handed;
+    accepted(next, false, counts, handed)
+}
+
+// An accepted closing call.
+fn close_from(s: State, room: &mut [u8], start: Receiver) -> Reply
+    requires { ⌜ Ready s 0 (length (now room)) start ⌝ }
+    ensures { λ r. ⌜ Replies (closeCall s (now (room .entry))) r (now (room .exit)) ⌝ }
+{
+    let last = receive_last(room, 0, start, none_handed());
+    let handed = last.handed;
+    let next = closed_state(s, handed);
+    accepted(next, last.alone, no_counts(), handed)
+}
+
+// A burst, or the closing call, which takes no notice of the line. There is one function for both, so that what it calls has one caller: the
+// compiler then puts it in its place, and no state is copied on the way.
+pub fn continued(s: State, line: &[u8], room: &mut [u8], closing: bool) -> Reply
+    ensures { λ r. ⌜ Replies (cond closing (closeCall s (now (room .entry))) (burstCall s (now (line .entry)) (now (room .entry)))) r (now (room .exit)) ⌝ }
+{
+    match judging::judge(s, taken(line.len(), closing), room.len()) {
+        judging::Judged::Refused(why) => refused(s, why),
+        judging::Judged::Accepted => {
+            let start = meaning::receiver_of(s);
+            if closing {
+                return close_from(s, room, start);
+            }
+            burst_from(s, line, room, start)
+        }
+    }
+}
+
+// One more part of a line: the vectors of all blocks but the last go to the room, from its start.
+pub fn burst(s: State, line: &[u8], room: &mut [u8]) -> Reply
+    ensures { λ r. ⌜ Replies (burstCall s (now (line .entry)) (now (room .entry))) r (now (room .exit)) ⌝ }
+{
+    continued(s, line, room, false)
+}
+
 // The end of the line: the last vector, if there is one, goes to the start of the room.
 pub fn close(s: State, room: &mut [u8]) -> Reply
     ensures { λ r. ⌜ Replies (closeCall s (now (room .entry))) r (now (room .exit)) ⌝ }
 {
-    match judging::judge(s, 0, room.len()) {
-        judging::Judged::Refused(why) => refused(s, why),
-        judging::Judged::Accepted => {
-            let r = meaning::receiver_of(s);
-            let last = receive_last(room, 0, r, none_handed());
-            let handed = last.handed;
-            let next = closed_state(s, handed);
-            accepted(next, last.alone, no_counts(), handed)
-        }
-    }
+    let none = [0u8; 0];
+    continued(s, &none, room, true)
 }

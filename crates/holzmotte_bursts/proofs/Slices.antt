@@ -1,17 +1,20 @@
--- What a call leaves in the slices, case by case. Assumes nothing.
-use Prim.Native.Nat.{ℕ, _+_, _*_, _≤_, _<_}
-use mathlib.Core.Path.{_≡_, refl, sym, ap, _∙_, subst}
-use mathlib.Core.Bool.{Bool, true, false, _||_, true≢false}
-use mathlib.Core.List.{List, _++_}
+-- What a call leaves in the slices. Assumes nothing.
+use Prim.Native.Nat.{ℕ, _-_, _≤_, _<_}
+use mathlib.Core.Path.{_≡_, refl, sym, ap, ap₂, _∙_, subst}
+use mathlib.Core.Bool.{Bool, true, false, cond, _||_, true≢false}
+use mathlib.Core.List.{List, [], _++_, append-nil}
+use native.Mathlib.Nat.{sub-zero}
 use native.Mathlib.Omega.{arith}
 use lib.ListN.{length, drop, replicate}
+use lib.Seq.{take-length, drop-length}
+use borrow.Rule.Slice.PartMut.{midOf, putMid, put-same}
 use Rattle.refusals.specs.First.{Verdict, accepted, refused, byVerdict}
 use Rattle.receiving.specs.Receive.{judgedAlone}
 use Rattle.receiving.specs.Answer.{ReceiveAnswer, received, answerOf}
 use Rattle.receiving.specs.Answer as Answer
 use Rattle.receiving.specs.declared.Summary.{Summary}
 use Rattle.receiving.specs.declared.Received.{Received}
-use Rattle.slices.specs.Slices.{resultOf, wordBytes, summaryWith, countersIn, countersWith, receiveLength, tooShort, shortSlice, receiveWords}
+use Rattle.slices.specs.Slices.{wordBytes, summaryWith, countersIn, countersWith, receiveLength, tooShort, shortSlice, receiveWords}
 use Rattle.counters.specs.Counters.{updated}
 use Rattle.counters.specs.declared.Counters.{Counters}
 use Rattle.receiving.specs.declared.Counts.{Counts}
@@ -24,148 +27,9 @@ use Rattle.bursts.specs.declared.Reply.{Reply}
 use Rattle.bursts.specs.Judging.{burstVerdict}
 use Rattle.bursts.specs.Burst.{Called, refuses, burstState, closeJudged, closeState, summaryIn, burstDone, closeDone, burstCall, closeCall, Replies}
 use Rattle.stored.specs.Stored.{stateIn, storedIn}
-use Rattle.holzmotte_bursts.specs.Boundary.{verdict, leaves, spares, burstLeft, closeLeft, Leaves}
-use Rattle.holzmotte_bursts.specs.Coded.{Placed, LeftBy}
-use Rattle.holzmotte_bursts.proofs.Verdicts.{place-zero, short-state, short-slices, long-slices}
-
--- ---- a refusal by the checks alone: the call is not made
-
-module _ (state line vectors summary counters : List ℕ) where
-  -- what is cleared
-  abbrev pub zeros : List ℕ
-  zeros = summaryWith receiveLength (replicate receiveLength 0) summary
-
-  burst-spared : (n p : ℕ) → verdict state (length line) (length vectors) (length summary) (length counters) ≡ refused n p
-      → Leaves (burstLeft state line vectors summary counters) (n + 256 * p) state vectors zeros counters
-  unfolding burstLeft spares
-  burst-spared n p e = (rw e, rw e, rw e, rw e, rw e)
-
-  close-spared : (n p : ℕ) → verdict state 0 (length vectors) (length summary) (length counters) ≡ refused n p
-      → Leaves (closeLeft state vectors summary counters) (n + 256 * p) state vectors zeros counters
-  unfolding closeLeft spares
-  close-spared n p e = (rw e, rw e, rw e, rw e, rw e)
-
-  pub burst-state-short : length state < 232 → Leaves (burstLeft state line vectors summary counters) 4 state vectors zeros counters
-  burst-state-short l = burst-spared 4 0 (short-state state (length line) (length vectors) (length summary) (length counters) l)
-
-  pub close-state-short : length state < 232 → Leaves (closeLeft state vectors summary counters) 4 state vectors zeros counters
-  close-state-short l = close-spared 4 0 (short-state state 0 (length vectors) (length summary) (length counters) l)
-
--- a verdict that is no success, as a result
-refusal-of : (v : Verdict) → (v ≡ accepted → ⊥) → (P : ℕ → Type 0) → ((n p : ℕ) → v ≡ refused n p → P (n + 256 * p)) → P (resultOf v)
-refusal-of accepted never P k = absurd (never refl)
-refusal-of (refused n p) never P k = k n p refl
-
-module _ (state line vectors summary counters : List ℕ) (long : 232 ≤ length state) (s : State) (es : s ≡ stateIn state) (short : shortSlice (length summary) (length counters) ≡ true) where
-  pub burst-short : (r : ℕ) → (burstVerdict s (length line) 0 ≡ accepted → ⊥) → r ≡ resultOf (burstVerdict s (length line) 0)
-      → Leaves (burstLeft state line vectors summary counters) r state vectors (zeros state line vectors summary counters) counters
-  burst-short r never e =
-      subst (λ (z : ℕ). Leaves (burstLeft state line vectors summary counters) z state vectors (zeros state line vectors summary counters) counters) (sym e)
-      (refusal-of (burstVerdict s (length line) 0) never (λ z. Leaves (burstLeft state line vectors summary counters) z state vectors (zeros state line vectors summary counters) counters)
-      (λ n p q.
-      burst-spared state line vectors summary counters n p
-      (short-slices state (length line) (length vectors) (length summary) (length counters) long short ∙ ap (λ (z : State). burstVerdict z (length line) 0) (sym es) ∙ q)))
-
-  pub close-short : (r : ℕ) → (burstVerdict s 0 0 ≡ accepted → ⊥) → r ≡ resultOf (burstVerdict s 0 0)
-      → Leaves (closeLeft state vectors summary counters) r state vectors (zeros state line vectors summary counters) counters
-  close-short r never e =
-      subst (λ (z : ℕ). Leaves (closeLeft state vectors summary counters) z state vectors (zeros state line vectors summary counters) counters) (sym e)
-      (refusal-of (burstVerdict s 0 0) never (λ z. Leaves (closeLeft state vectors summary counters) z state vectors (zeros state line vectors summary counters) counters)
-      (λ n p q.
-      close-spared state line vectors summary counters n p
-      (short-slices state 0 (length vectors) (length summary) (length counters) long short ∙ ap (λ (z : State). burstVerdict z 0 0) (sym es) ∙ q)))
-
--- ---- the call is made
-
--- what an answer says of the place
-pub placed : (a b : ReceiveAnswer) → a ≡ b → Placed b → Placed a
-placed a b e p = subst Placed (sym e) p
-
-module _ (state vectors summary counters vectors′ : List ℕ) (s : State) (r : Reply) where
-  -- a call that comes to `good` by the verdict `v`, or else to a refusal
-  module _ (good : Called) (sum : Summary) (says : good .answer ≡ received sum) where
-    made-placed : (v : Verdict) → ((n p : ℕ) → v ≡ refused n p → p ≡ 0) → (c : Called) → c ≡ byVerdict v good (refuses s vectors) → Replies c r vectors′ → Placed (answerOf (r .answer))
-    unfolding refuses
-    made-placed accepted zero c e w = placed (answerOf (r .answer)) (received sum) (w .1 ∙ ap (λ (z : Called). z .answer) e ∙ says) tt
-    made-placed (refused n p) zero c e w =
-        placed (answerOf (r .answer)) (Answer.refused n p) (w .1 ∙ ap (λ (z : Called). z .answer) e) (omega (arith, zero n p refl))
-
-    made-left : (v : Verdict) (c : Called) → c ≡ byVerdict v good (refuses s vectors) → Replies c r vectors′
-        → (z : ℕ) (state′ summary′ counters′ : List ℕ) → LeftBy (answerOf (r .answer)) (r .state) (r .added) state summary counters z state′ summary′ counters′
-        → Leaves (byVerdict v (leaves state summary counters c) (spares state vectors summary counters)) z state′ vectors′ summary′ counters′
-    unfolding refuses leaves spares
-    made-left accepted c e w z state′ summary′ counters′ l =
-        let a : answerOf (r .answer) ≡ received sum = w .1 ∙ ap (λ (x : Called). x .answer) e ∙ says in
-        let m : LeftBy (received sum) (r .state) (r .added) state summary counters z state′ summary′ counters′ =
-        subst (λ (x : ReceiveAnswer). LeftBy x (r .state) (r .added) state summary counters z state′ summary′ counters′) a l in (
-          m .0,
-          m .1 ∙ ap (λ (x : State). storedIn x state) (w .0),
-          w .3,
-          m .2 ∙ ap (λ (x : ReceiveAnswer). summaryWith receiveLength (receiveWords x) summary) (sym a ∙ w .1),
-          m .3 ∙ ap (λ (x : Added). countersWith (updated (countersIn counters) (x .counts) (x .handed)) counters) (w .2),
-        )
-    made-left (refused n p) c e w z state′ summary′ counters′ l =
-        let a : answerOf (r .answer) ≡ Answer.refused n p = w .1 ∙ ap (λ (x : Called). x .answer) e in
-        let m : LeftBy (Answer.refused n p) (r .state) (r .added) state summary counters z state′ summary′ counters′ =
-        subst (λ (x : ReceiveAnswer). LeftBy x (r .state) (r .added) state summary counters z state′ summary′ counters′) a l in
-        (m .0, m .1, w .3 ∙ ap (λ (x : Called). x .room) e, m .2, m .3)
-
--- a burst
-module _ (state line vectors summary counters vectors′ : List ℕ) (s : State) (r : Reply) (w : Replies (burstCall s line vectors) r vectors′) where
-  burst-by : burstCall s line vectors ≡ byVerdict (burstVerdict s (length line) (length vectors)) (burstDone s line vectors) (refuses s vectors)
-  unfolding burstCall
-  burst-by = refl
-
-  pub burst-placed : Placed (answerOf (r .answer))
-  burst-placed =
-      made-placed state vectors summary counters vectors′ s r (burstDone s line vectors) (summaryIn (burstState s line) false) refl (burstVerdict s (length line) (length vectors))
-      (λ n p q. place-zero s (length line) (length vectors) n p q) (burstCall s line vectors) burst-by w
-
-  pub burst-answered : s ≡ stateIn state → 232 ≤ length state → shortSlice (length summary) (length counters) ≡ false
-      → (z : ℕ) (state′ summary′ counters′ : List ℕ) → LeftBy (answerOf (r .answer)) (r .state) (r .added) state summary counters z state′ summary′ counters′
-      → Leaves (burstLeft state line vectors summary counters) z state′ vectors′ summary′ counters′
-  unfolding burstLeft
-  burst-answered es long enough z state′ summary′ counters′ l =
-      let e = long-slices state (length line) (length vectors) (length summary) (length counters) long enough in
-      let m = made-left state vectors summary counters vectors′ s r (burstDone s line vectors) (summaryIn (burstState s line) false) refl (burstVerdict s (length line) (length vectors)) (burstCall s line vectors) burst-by w z state′ summary′ counters′ l in
-      subst (λ (v : Verdict). Leaves (byVerdict v (leaves state summary counters (burstCall (stateIn state) line vectors)) (spares state vectors summary counters)) z state′ vectors′ summary′ counters′) (sym e)
-      (subst (λ (x : State). Leaves (byVerdict (burstVerdict x (length line) (length vectors)) (leaves state summary counters (burstCall x line vectors)) (spares state vectors summary counters)) z state′ vectors′ summary′ counters′) es m)
-
--- the closing call
-module _ (state vectors summary counters vectors′ : List ℕ) (s : State) (r : Reply) (w : Replies (closeCall s vectors) r vectors′) where
-  close-by : closeCall s vectors ≡ byVerdict (burstVerdict s 0 (length vectors)) (closeDone s vectors) (refuses s vectors)
-  unfolding closeCall
-  close-by = refl
-
-  pub close-placed : Placed (answerOf (r .answer))
-  close-placed =
-      made-placed state vectors summary counters vectors′ s r (closeDone s vectors) (summaryIn (closeState s) (judgedAlone (closeJudged s))) refl (burstVerdict s 0 (length vectors))
-      (λ n p q. place-zero s 0 (length vectors) n p q) (closeCall s vectors) close-by w
-
-  pub close-answered : s ≡ stateIn state → 232 ≤ length state → shortSlice (length summary) (length counters) ≡ false
-      → (z : ℕ) (state′ summary′ counters′ : List ℕ) → LeftBy (answerOf (r .answer)) (r .state) (r .added) state summary counters z state′ summary′ counters′
-      → Leaves (closeLeft state vectors summary counters) z state′ vectors′ summary′ counters′
-  unfolding closeLeft
-  close-answered es long enough z state′ summary′ counters′ l =
-      let e = long-slices state 0 (length vectors) (length summary) (length counters) long enough in
-      let m = made-left state vectors summary counters vectors′ s r (closeDone s vectors) (summaryIn (closeState s) (judgedAlone (closeJudged s))) refl (burstVerdict s 0 (length vectors)) (closeCall s vectors) close-by w z state′ summary′ counters′ l in
-      subst (λ (v : Verdict). Leaves (byVerdict v (leaves state summary counters (closeCall (stateIn state) vectors)) (spares state vectors summary counters)) z state′ vectors′ summary′ counters′) (sym e)
-      (subst (λ (x : State). Leaves (byVerdict (burstVerdict x 0 (length vectors)) (leaves state summary counters (closeCall x vectors)) (spares state vectors summary counters)) z state′ vectors′ summary′ counters′) es m)
-
--- ---- a reply, by the answer that a match finds
-
-module _ (next : State) (added : Added) (state summary counters : List ℕ) (z : ℕ) (state′ summary′ counters′ : List ℕ) where
-  pub found-left : (a b : Received) → a ≡ b → LeftBy (answerOf b) next added state summary counters z state′ summary′ counters′
-      → LeftBy (answerOf a) next added state summary counters z state′ summary′ counters′
-  found-left a b e l = subst (λ (x : Received). LeftBy (answerOf x) next added state summary counters z state′ summary′ counters′) (sym e) l
-
-pub found-placed : (a b : Received) → a ≡ b → Placed (answerOf a) → Placed (answerOf b)
-found-placed a b e p = subst (λ (x : Received). Placed (answerOf x)) e p
-
--- the words of an answer, as they were put
-pub put-is : (s : Summary) (summary summary′ : List ℕ) → 96 ≤ length summary → summary′ ≡ wordBytes 8 (receiveWords (received s)) ++ drop 96 summary
-    → summary′ ≡ summaryWith receiveLength (receiveWords (received s)) summary
-put-is s summary summary′ l e = e ∙ sym (summary-long receiveLength (receiveWords (received s)) summary l)
+use Rattle.holzmotte_bursts.specs.Boundary.{verdict, Left, leaves, spares, burstLeft, closeLeft, Leaves}
+use Rattle.holzmotte_bursts.specs.Coded.{Fits, LeftBy}
+use Rattle.holzmotte_bursts.proofs.Verdicts.{place-zero, short-state, short-slices, long-slices, goes-on}
 
 -- slices that are long enough
 neither : (a b : Bool) → a || b ≡ false → (a ≡ false) × (b ≡ false)
@@ -177,27 +41,176 @@ both-long summary counters e =
     let n = neither (tooShort 8 receiveLength summary) (tooShort 4 8 counters) e in
     (ltb-false summary 96 (n .0), ltb-false counters 32 (n .1))
 
--- an answer tells the verdict
-abbrev pub verdictIn : ReceiveAnswer → Verdict
-verdictIn (received s) = accepted
-verdictIn (Answer.refused number place) = refused number place
+-- ---- either call: a burst, or the closing call
+
+-- its line bytes: the closing call has none
+abbrev bytes : Bool → (line : List ℕ) → ℕ
+bytes closing line = cond closing 0 (length line)
+
+-- what it comes to
+abbrev comes : Bool → State → (line room : List ℕ) → Called
+comes closing s line room = cond closing (closeCall s room) (burstCall s line room)
+
+-- what it comes to where it is accepted
+abbrev done : Bool → State → (line room : List ℕ) → Called
+done closing s line room = cond closing (closeDone s room) (burstDone s line room)
+
+comes-by : (closing : Bool) (s : State) (line room : List ℕ)
+    → comes closing s line room ≡ byVerdict (burstVerdict s (bytes closing line) (length room)) (done closing s line room) (refuses s room)
+unfolding burstCall closeCall
+comes-by true s line room = refl
+comes-by false s line room = refl
+
+-- the summary of an accepted one
+abbrev sum : Bool → State → (line : List ℕ) → Summary
+sum closing s line = cond closing (summaryIn (closeState s) (judgedAlone (closeJudged s))) (summaryIn (burstState s line) false)
+
+done-says : (closing : Bool) (s : State) (line room : List ℕ) → done closing s line room .answer ≡ received (sum closing s line)
+done-says true s line room = refl
+done-says false s line room = refl
+
+-- what it leaves
+abbrev left : Bool → (state line vectors summary counters : List ℕ) → Left
+left closing state line vectors summary counters = cond closing (closeLeft state vectors summary counters) (burstLeft state line vectors summary counters)
+
+-- by the verdict
+abbrev leftFor : Verdict → Bool → (state line vectors summary counters : List ℕ) → Left
+leftFor v closing state line vectors summary counters =
+    byVerdict v (leaves state summary counters (comes closing (stateIn state) line vectors)) (spares state vectors summary counters)
+
+left-by : (closing : Bool) (state line vectors summary counters : List ℕ)
+    → left closing state line vectors summary counters
+    ≡ leftFor (verdict state (bytes closing line) (length vectors) (length summary) (length counters)) closing state line vectors summary counters
+unfolding burstLeft closeLeft
+left-by true state line vectors summary counters = refl
+left-by false state line vectors summary counters = refl
+
+module _ (closing : Bool) (state line vectors summary counters : List ℕ) where
+  -- the verdict on it through C
+  abbrev judged : Verdict
+  judged = verdict state (bytes closing line) (length vectors) (length summary) (length counters)
+
+  left-for : (v : Verdict) → judged ≡ v → left closing state line vectors summary counters ≡ leftFor v closing state line vectors summary counters
+  left-for v e = left-by closing state line vectors summary counters ∙ ap (λ (x : Verdict). leftFor x closing state line vectors summary counters) e
+
+  -- a state too short
+  pub state-short : length state < 232 → (summary′ : List ℕ) → summary′ ≡ summaryWith receiveLength (replicate receiveLength 0) summary
+      → Leaves (left closing state line vectors summary counters) 4 state vectors summary′ counters
+  unfolding spares
+  state-short l summary′ e =
+      subst (λ (z : Left). Leaves z 4 state vectors summary′ counters)
+      (sym (left-for (refused 4 0) (short-state state (bytes closing line) (length vectors) (length summary) (length counters) l)))
+      (refl, refl, refl, e, refl)
+
+-- ---- a state long enough: the call is made, with no room where the summary or the counters are too short
+
+-- none of a room or all of it is lent, as a part of it
+module _ (vectors : List ℕ) (short : Bool) (n : ℕ) (en : n ≡ cond short 0 (length vectors)) where
+  lent-is : (b : Bool) → short ≡ b → n - 0 ≡ cond b 0 (length vectors)
+  lent-is b e = sub-zero n ∙ en ∙ ap (λ (x : Bool). cond x 0 (length vectors)) e
+
+  lent-none : short ≡ true → midOf 0 (n - 0) vectors ≡ []
+  lent-none e = ap (λ (k : ℕ). midOf 0 k vectors) (lent-is true e)
+
+  lent-all : short ≡ false → midOf 0 (n - 0) vectors ≡ vectors
+  lent-all e = ap (λ (k : ℕ). midOf 0 k vectors) (lent-is false e) ∙ take-length vectors
+
+  -- all of it comes back
+  back-all : (room′ : List ℕ) → short ≡ false → putMid 0 (n - 0) vectors room′ ≡ room′
+  back-all room′ e = ap (λ (k : ℕ). putMid 0 k vectors room′) (lent-is false e) ∙ ap (λ (x : List ℕ). room′ ++ x) (drop-length vectors) ∙ append-nil room′
+
+module _ (closing : Bool) (state line vectors summary counters : List ℕ) (s : State) (es : s ≡ stateIn state) (long : 232 ≤ length state) (short : Bool)
+    (eb : short ≡ shortSlice (length summary) (length counters)) (n : ℕ) (en : n ≡ cond short 0 (length vectors)) where
+  -- the room of the call itself
+  abbrev room : List ℕ
+  room = midOf 0 (n - 0) vectors
+
+  -- its own verdict
+  abbrev own : Verdict
+  own = burstVerdict s (bytes closing line) (length room)
+
+  -- which is that on the call through C
+  judged-is : judged closing state line vectors summary counters ≡ own
+  judged-is = by short refl
+    where
+      by : (b : Bool) → short ≡ b → judged closing state line vectors summary counters ≡ own
+      by true h =
+          short-slices state (bytes closing line) (length vectors) (length summary) (length counters) long (sym eb ∙ h)
+          ∙ ap₂ (λ (z : State) (x : List ℕ). burstVerdict z (bytes closing line) (length x)) (sym es) (sym (lent-none vectors short n en h))
+      by false h =
+          long-slices state (bytes closing line) (length vectors) (length summary) (length counters) long (sym eb ∙ h)
+          ∙ ap₂ (λ (z : State) (x : List ℕ). burstVerdict z (bytes closing line) (length x)) (sym es) (sym (lent-all vectors short n en h))
+
+  -- so an accepted call is lent slices that are long enough
+  enough : own ≡ accepted → short ≡ false
+  enough v = eb ∙ goes-on state (bytes closing line) (length vectors) (length summary) (length counters) (judged-is ∙ v) .0
+
+  module _ (r : Reply) (room′ : List ℕ) (w : Replies (comes closing s line room) r room′) where
+    -- the call by its verdict
+    comes-for : (v : Verdict) → own ≡ v → comes closing s line room ≡ byVerdict v (done closing s line room) (refuses s room)
+    comes-for v e = comes-by closing s line room ∙ ap (λ (x : Verdict). byVerdict x (done closing s line room) (refuses s room)) e
+
+    -- its answer
+    received-is : own ≡ accepted → answerOf (r .answer) ≡ received (sum closing s line)
+    received-is v = w .1 ∙ ap (λ (x : Called). x .answer) (comes-for accepted v) ∙ done-says closing s line room
+
+    refused-is : (k p : ℕ) → own ≡ refused k p → answerOf (r .answer) ≡ Answer.refused k p
+    unfolding refuses
+    refused-is k p v = w .1 ∙ ap (λ (x : Called). x .answer) (comes-for (refused k p) v)
+
+    fits-by : (v : Verdict) → own ≡ v → Fits (answerOf (r .answer)) (length summary) (length counters)
+    fits-by accepted v =
+        subst (λ (a : ReceiveAnswer). Fits a (length summary) (length counters)) (sym (received-is v)) (both-long (length summary) (length counters) (sym eb ∙ enough v))
+    fits-by (refused k p) v =
+        subst (λ (a : ReceiveAnswer). Fits a (length summary) (length counters)) (sym (refused-is k p v)) (omega (arith, place-zero s (bytes closing line) (length room) k p v))
+
+    -- the answer fits
+    pub call-fits : Fits (answerOf (r .answer)) (length summary) (length counters)
+    call-fits = fits-by own refl
+
+    module _ (z : ℕ) (state′ summary′ counters′ : List ℕ)
+        (l : LeftBy (answerOf (r .answer)) (r .state) (r .added) state summary counters z state′ summary′ counters′) where
+      left-of : (a : ReceiveAnswer) → answerOf (r .answer) ≡ a → LeftBy a (r .state) (r .added) state summary counters z state′ summary′ counters′
+      left-of a e = subst (λ (x : ReceiveAnswer). LeftBy x (r .state) (r .added) state summary counters z state′ summary′ counters′) e l
+
+      leaves-by : (v : Verdict) → own ≡ v → Leaves (leftFor v closing state line vectors summary counters) z state′ (putMid 0 (n - 0) vectors room′) summary′ counters′
+      unfolding refuses leaves spares
+      leaves-by accepted v =
+          let u : Replies (comes closing (stateIn state) line vectors) r room′ =
+          subst (λ (c : Called). Replies c r room′) (ap₂ (λ (x : State) (y : List ℕ). comes closing x line y) es (lent-all vectors short n en (enough v))) w in
+          let m = left-of (received (sum closing s line)) (received-is v) in (
+            m .0,
+            m .1 ∙ ap (λ (x : State). storedIn x state) (u .0),
+            back-all vectors short n en room′ (enough v) ∙ u .3,
+            m .2 ∙ ap (λ (x : ReceiveAnswer). summaryWith receiveLength (receiveWords x) summary) (sym (received-is v) ∙ u .1),
+            m .3 ∙ ap (λ (x : Added). countersWith (updated (countersIn counters) (x .counts) (x .handed)) counters) (u .2),
+          )
+      leaves-by (refused k p) v =
+          let m = left-of (Answer.refused k p) (refused-is k p v) in
+          let same : room′ ≡ room = w .3 ∙ ap (λ (x : Called). x .room) (comes-for (refused k p) v) in
+          (m .0, m .1, ap (putMid 0 (n - 0) vectors) same ∙ put-same 0 (n - 0) vectors, m .2, m .3)
+
+      -- so the promise is kept
+      pub call-leaves : Leaves (left closing state line vectors summary counters) z state′ (putMid 0 (n - 0) vectors room′) summary′ counters′
+      call-leaves =
+          subst (λ (x : Left). Leaves x z state′ (putMid 0 (n - 0) vectors room′) summary′ counters′) (sym (left-for closing state line vectors summary counters own judged-is)) (leaves-by own refl)
+
+-- ---- a reply, by the answer that a match finds
+
+module _ (next : State) (added : Added) (state summary counters : List ℕ) (z : ℕ) (state′ summary′ counters′ : List ℕ) where
+  pub found-left : (a b : Received) → a ≡ b → LeftBy (answerOf b) next added state summary counters z state′ summary′ counters′
+      → LeftBy (answerOf a) next added state summary counters z state′ summary′ counters′
+  found-left a b e l = subst (λ (x : Received). LeftBy (answerOf x) next added state summary counters z state′ summary′ counters′) (sym e) l
+
+pub found-fits : (a b : Received) (summary counters : ℕ) → a ≡ b → Fits (answerOf a) summary counters → Fits (answerOf b) summary counters
+found-fits a b summary counters e p = subst (λ (x : Received). Fits (answerOf x) summary counters) e p
+
+-- the words of an answer, as they were put
+pub put-is : (s : Summary) (summary summary′ : List ℕ) → 96 ≤ length summary → summary′ ≡ wordBytes 8 (receiveWords (received s)) ++ drop 96 summary
+    → summary′ ≡ summaryWith receiveLength (receiveWords (received s)) summary
+put-is s summary summary′ l e = e ∙ sym (summary-long receiveLength (receiveWords (received s)) summary l)
 
 -- the counters, as they were added
 pub added-to : (counters counters′ : List ℕ) (before after : Counters) (n : Counts) (h : Handed) → before ≡ countersIn counters → after ≡ updated before n h → counters′ ≡ countersWith after counters
     → counters′ ≡ countersWith (updated (countersIn counters) n h) counters
 added-to counters counters′ before after n h e f g = g ∙ ap (λ (c : Counters). countersWith c counters) (f ∙ ap (λ (c : Counters). updated c n h) e)
-
--- what a burst into no room comes to
-pub none-result : (s : State) (line room : List ℕ) (r : Reply) (a b : Received) (z : ℕ) → length room ≡ 0 → answerOf (r .answer) ≡ burstCall s line room .answer → r .answer ≡ a → a ≡ b
-    → (v : Verdict) → burstVerdict s (length line) 0 ≡ v → z ≡ resultOf (verdictIn (answerOf b)) → z ≡ resultOf (burstVerdict s (length line) 0)
-unfolding burstCall refuses
-none-result s line room r a b z n w e f accepted q g =
-    g ∙ ap (λ (x : ReceiveAnswer). resultOf (verdictIn x)) (sym (ap answerOf (e ∙ f)) ∙ w ∙ said) ∙ ap resultOf (sym q)
-  where
-    said : burstCall s line room .answer ≡ received (summaryIn (burstState s line) false)
-    said = rw (n, q) refl
-none-result s line room r a b z n w e f (refused k p) q g =
-    g ∙ ap (λ (x : ReceiveAnswer). resultOf (verdictIn x)) (sym (ap answerOf (e ∙ f)) ∙ w ∙ said) ∙ ap resultOf (sym q)
-  where
-    said : burstCall s line room .answer ≡ Answer.refused k p
-    said = rw (n, q) refl

@@ -103,7 +103,7 @@ no-room false false false false q = let z : _≡_ {A = ℕ} 0 1 = cc in omega ar
 room-asked : (s : State) (line : ℕ) → ltb 0 (roomFor s line) ≡ true
 room-asked s line = lt-ltb 0 (roomFor s line) (omega arith)
 
-pub never-there : (s : State) (line : ℕ) → burstVerdict s line 0 ≡ accepted → ⊥
+never-there : (s : State) (line : ℕ) → burstVerdict s line 0 ≡ accepted → ⊥
 unfolding burstVerdict burstChecks
 never-there s line q =
     no-room (ltb 1 (s .edition)) (s .closed) (badState s) (ltb 825000 (s .bytes + line))

@@ -10,10 +10,10 @@ use Rattle.bursts.specs.declared.State.{State}
 use Rattle.bursts.specs.declared.Added.{Added}
 use Rattle.stored.specs.Stored.{storedIn}
 
--- a refusal's place fits a result
-abbrev pub Placed : ReceiveAnswer → Type 0
-Placed (received s) = Unit
-Placed (refused number place) = place ≤ 1000000
+-- an answer fits: a summary and what was counted the lengths of their slices, a refusal's place the result
+abbrev pub Fits : ReceiveAnswer → (summary counters : ℕ) → Type 0
+Fits (received s) summary counters = (96 ≤ summary) × (32 ≤ counters)
+Fits (refused number place) summary counters = place ≤ 1000000
 
 -- by the answer
 abbrev pub LeftBy : ReceiveAnswer → State → Added → (state summary counters : List ℕ) → (r : ℕ) (state′ summary′ counters′ : List ℕ) → Type 0

@@ -1,10 +1,8 @@
 // Bursts through C: byte slices and 64-bit numbers. include/holzmotte.h says what each pointer is.
 use bursts::Begun;
 use bursts::Reply;
-use bursts::State;
 use bursts::begin;
-use bursts::burst;
-use bursts::close;
+use bursts::continued;
 use counters::add_counts;
 use receiving::Received;
 use slices::clear;
@@ -16,13 +14,12 @@ use slices::store_counters;
 use stored::load_state;
 use stored::store_state;
 ghost use mathlib.Core.Path.{_≡_};
+ghost use mathlib.Core.Bool.{cond};
 ghost use Prim.Native.Nat.{_≤_};
 ghost use lib.ListN.{length};
 ghost use Rattle.receiving.specs.Answer.{answerOf};
-ghost use Rattle.slices.specs.Slices.{resultOf};
-ghost use Rattle.bursts.specs.Judging.{burstVerdict};
 ghost use Rattle.holzmotte_bursts.specs.Boundary.{BeginsThroughC, burstLeft, closeLeft, Leaves};
-ghost use Rattle.holzmotte_bursts.specs.Coded.{Placed, LeftBy};
+ghost use Rattle.holzmotte_bursts.specs.Coded.{Fits, LeftBy};
 
 // A fresh state of an edition (0 old, 1 new) in lent bytes.
 #[no_mangle]
@@ -41,9 +38,9 @@ pub extern "C" fn holzmotte_begin(edition: u64, state: &mut [u8]) -> u64
     }
 }
 
-// What a reply leaves in the slices, which are long enough, and the result.
+// What a reply leaves in the slices, which are long enough where it is no refusal, and the result.
 fn answered(state: &mut [u8], summary: &mut [u8], counters: &mut [u8], r: Reply) -> u64
-    requires { ⌜ (232 ≤ length (now state)) × (96 ≤ length (now summary)) × (32 ≤ length (now counters)) × Placed (answerOf (r .answer)) ⌝ }
+    requires { ⌜ (232 ≤ length (now state)) × Fits (answerOf (r .answer)) (length (now summary)) (length (now counters)) ⌝ }
     ensures { λ z. ⌜ LeftBy (answerOf (r .answer)) (r .state) (r .added) (now (state .entry)) (now (summary .entry)) (now (counters .entry)) z (now (state .exit)) (now (summary .exit)) (now (counters .exit)) ⌝ }
 {
     let next = r.state;
@@ -66,17 +63,32 @@ fn answered(state: &mut [u8], summary: &mut [u8], counters: &mut [u8], r: Reply)
     }
 }
 
-// The result where the summary or the counters are too short: what a burst into no room is refused for.
-fn burst_short(s: State, line: &[u8]) -> u64
-    ensures { λ r. ⌜ r ≡ resultOf (burstVerdict s (length (now (line .entry))) 0) ⌝ }
+// How many bytes of a room are lent: none where the summary or the counters are too short, and so the call is refused.
+fn lent(room: usize, short: bool) -> usize
+    ensures { λ r. ⌜ (r ≡ cond short 0 room) × (r ≤ room) ⌝ }
 {
-    let mut none = [0u8; 0];
-    let r = burst(s, line, &mut none);
-    let answer = r.answer;
-    match answer {
-        Received::Done(_) => 0,
-        Received::Refused(why, place) => refusal(why, place),
+    if short { 0 } else { room }
+}
+
+// A burst, or the closing call: one function for both, as `continued` is.
+fn called(
+    state: &mut [u8],
+    line: &[u8],
+    vectors: &mut [u8],
+    summary: &mut [u8],
+    counters: &mut [u8],
+    closing: bool,
+) -> u64
+    ensures { λ r. ⌜ Leaves (cond closing (closeLeft (now (state .entry)) (now (vectors .entry)) (now (summary .entry)) (now (counters .entry))) (burstLeft (now (state .entry)) (now (line .entry)) (now (vectors .entry)) (now (summary .entry)) (now (counters .entry)))) r (now (state .exit)) (now (vectors .exit)) (now (summary .exit)) (now (counters .exit)) ⌝ }
+{
+    if state.len() < 232 {
+        clear(summary);
+        return 4;
     }
+    let s = load_state(state);
+    let n = lent(vectors.len(), short_slice(summary.len(), counters.len()));
+    let r = continued(s, line, &mut vectors[0..n], closing);
+    answered(state, summary, counters, r)
 }
 
 // One more part of a line: vectors to the room, twelve words to the summary, and the state after it in the state's bytes; what was counted
@@ -91,17 +103,7 @@ pub extern "C" fn holzmotte_burst(
 ) -> u64
     ensures { λ r. ⌜ Leaves (burstLeft (now (state .entry)) (now (line .entry)) (now (vectors .entry)) (now (summary .entry)) (now (counters .entry))) r (now (state .exit)) (now (vectors .exit)) (now (summary .exit)) (now (counters .exit)) ⌝ }
 {
-    if state.len() < 232 {
-        clear(summary);
-        return 4;
-    }
-    let s = load_state(state);
-    if short_slice(summary.len(), counters.len()) {
-        clear(summary);
-        return burst_short(s, line);
-    }
-    let r = burst(s, line, vectors);
-    answered(state, summary, counters, r)
+    called(state, line, vectors, summary, counters, false)
 }
 
 // The closing call: the last vector to the room, and the rest as a burst does.
@@ -114,16 +116,6 @@ pub extern "C" fn holzmotte_close(
 ) -> u64
     ensures { λ r. ⌜ Leaves (closeLeft (now (state .entry)) (now (vectors .entry)) (now (summary .entry)) (now (counters .entry))) r (now (state .exit)) (now (vectors .exit)) (now (summary .exit)) (now (counters .exit)) ⌝ }
 {
-    if state.len() < 232 {
-        clear(summary);
-        return 4;
-    }
-    let s = load_state(state);
-    if short_slice(summary.len(), counters.len()) {
-        clear(summary);
-        let none = [0u8; 0];
-        return burst_short(s, &none);
-    }
-    let r = close(s, vectors);
-    answered(state, summary, counters, r)
+    let none = [0u8; 0];
+    called(state, &none, vectors, summary, counters, true)
 }

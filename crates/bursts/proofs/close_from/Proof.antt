@@ -1,0 +1,61 @@
+-- `bursts::close_from` meets its contract. The vector of the block that is held. Assumes nothing.
+use mathlib.Core.Path.{_≡_, sym, ap, _∙_, subst}
+use mathlib.Core.Bool.{true}
+use borrow.Author.Needs.{needs}
+use denote.Ref.{now}
+use Rattle.receiving.specs.Loop.{heldHanded}
+use Rattle.receiving.specs.Parts.{noneHanded}
+use Rattle.receiving.specs.Counted.{HandedWithin}
+use Rattle.receiving.specs.declared.Handed.{Handed}
+use Rattle.receiving.specs.declared.Receiver.{Receiver}
+use Rattle.receiving.proofs.Counted.{handed-none}
+use Rattle.bursts.proofs.Going.{last-fits, close-fits, close-length, close-is}
+use Rattle.bursts.proofs.close_from.Statement.{statement}
+use Rattle.bursts.proofs.close_from.Tie as tie
+
+-- the last vector, counted from nothing on
+counted : (r : Receiver) (start handed : Handed) → handed ≡ heldHanded (r .have) start (r .state) (r .held) true → start ≡ noneHanded
+    → handed ≡ heldHanded (r .have) noneHanded (r .state) (r .held) true
+counted r start handed e f = e ∙ ap (λ (h : Handed). heldHanded (r .have) h (r .state) (r .held) true) f
+
+none-within : (h : Handed) → h ≡ noneHanded → HandedWithin 6600000 h
+none-within h e = subst (HandedWithin 6600000) (sym e) (handed-none 6600000)
+
+none-handed-requires : tie.Need-none-handed-requires
+none-handed-requires c κs = search needs
+
+receive-last-requires : tie.Need-receive-last-requires
+receive-last-requires c κs = (last-fits (c .before .before .before .args .s) (now (c .before .before .before .args .room)) (c .before .before .before .pre .passes) (c .before .before .before .args .start) (c .before .before .before .pre .means), none-within (c .none-handed .result) (c .none-handed .ensures))
+
+closed-state-requires : tie.Need-closed-state-requires
+closed-state-requires c κs =
+    close-fits (c .before .before .before .before .before .before .before .args .s) (now (c .before .before .before .before .before .before .before .args .room)) (c .before .before .before .before .before .before .before .pre .passes) (c .before .before .before .before .before .before .before .args .start) (c .before .before .before .before .before .before .before .pre .means) (c .before .before .before .receive-last .result .handed) (counted (c .before .before .before .before .before .before .before .args .start) (c .before .before .before .before .none-handed .result) (c .before .before .before .receive-last .result .handed) (c .before .before .before .receive-last .ensures .1) (c .before .before .before .before .none-handed .ensures))
+
+no-counts-requires : tie.Need-no-counts-requires
+no-counts-requires c κs = search needs
+
+accepted-requires : tie.Need-accepted-requires
+accepted-requires c κs = search needs
+
+same-length : tie.Need-same-length
+same-length c =
+    close-length (c .before .before .before .before .before .before .before .before .before .before .args .s) (now (c .before .before .before .before .before .before .before .before .before .before .args .room)) (c .before .before .before .before .before .before .before .before .before .before .pre .passes) (c .before .before .before .before .before .before .before .before .before .before .args .start) (c .before .before .before .before .before .before .before .before .before .before .pre .means) (c .before .before .before .before .before .before .receive-last .result .handed) (counted (c .before .before .before .before .before .before .before .before .before .before .args .start) (c .before .before .before .before .before .before .before .none-handed .result) (c .before .before .before .before .before .before .receive-last .result .handed) (c .before .before .before .before .before .before .receive-last .ensures .1) (c .before .before .before .before .before .before .before .none-handed .ensures))
+    (c .before .before .before .before .before .before .receive-last .last .0) (c .before .before .before .before .before .before .receive-last .ensures .0)
+
+returns : tie.Need-returns
+returns c =
+    close-is (c .before .before .before .before .before .before .before .before .before .before .args .s) (now (c .before .before .before .before .before .before .before .before .before .before .args .room)) (c .before .before .before .before .before .before .before .before .before .before .pre .passes) (c .before .before .before .before .before .before .before .before .before .before .args .start) (c .before .before .before .before .before .before .before .before .before .before .pre .means) (c .before .before .before .before .before .before .receive-last .result .handed) (counted (c .before .before .before .before .before .before .before .before .before .before .args .start) (c .before .before .before .before .before .before .before .none-handed .result) (c .before .before .before .before .before .before .receive-last .result .handed) (c .before .before .before .before .before .before .receive-last .ensures .1) (c .before .before .before .before .before .before .before .none-handed .ensures))
+    (c .before .before .before .before .before .before .receive-last .last .0) (c .before .before .before .before .before .before .receive-last .ensures .0) (c .before .before .closed-state .result) (c .before .before .before .before .before .before .receive-last .result .alone) (c .before .no-counts .result) (c .accepted .result) (c .before .before .closed-state .ensures)
+    (c .before .before .before .before .before .before .receive-last .ensures .2) (c .before .no-counts .ensures) (c .accepted .ensures .0) (c .accepted .ensures .1) (c .accepted .ensures .2)
+
+pub close-from-spec : {M : Type 1} → statement M
+close-from-spec =
+    tie.close
+    (tie.spec
+    none-handed-requires
+    receive-last-requires
+    closed-state-requires
+    no-counts-requires
+    accepted-requires
+    same-length
+    returns)
