@@ -6,9 +6,10 @@ use mathlib.Core.Logic.{_≢_}
 use mathlib.Core.List.{List, _++_}
 use native.Mathlib.Omega.{arith}
 use native.Mathlib.Nat.{add-zero}
-use lib.Dec.{T, ltb}
+use lib.Dec.{T, ltb, leb}
+use lib.Bits.{bitOr, bitXor, and-le-l, and-le-r, or-add-and, xor-add-and}
 use lib.ListN.{length, take, drop}
-use borrow.Author.Tests.{ltb-true}
+use borrow.Author.Tests.{lt-ltb, le-ltb, lt-leb}
 use Rattle.bits.specs.Bits.{bit, number, lineBit, lineBits}
 use Rattle.bits.proofs.Laws.{by-lt, number-lt}
 use Rattle.bits.proofs.Lists.{lineBit-lt}
@@ -28,18 +29,20 @@ use Rattle.decoding.specs.declared.Vector.{Vector}
 use Rattle.diagrams.specs.Lock.{lockOf, slipsOf}
 use Rattle.diagrams.specs.Rate.{rateOf}
 use Rattle.diagrams.specs.Diagram.{diagramOf, afterIdle, afterData, afterError, afterLow, stateNumber, follows}
+use Rattle.diagrams.specs.declared.Lock.{Lock}
 use Rattle.diagrams.specs.declared.Rate.{Rate}
 use Rattle.diagrams.specs.declared.State.{State}
 use Rattle.diagrams.specs.declared.State.the-variants.{Init, Control, Data, Terminate, Error, LowPower}
-use Rattle.diagrams.proofs.InLock.{lock-stays, no-slip, rate-valid}
+use Rattle.diagrams.proofs.InLock.{lock-valid, lock-stays, no-slip, rate-valid}
 use Rattle.blocks.specs.Blocks.{headerAt, payloadAt, headersAt, Fours}
 use Rattle.blocks.specs.declared.Four.{Four}
-use Rattle.blocks.proofs.Unique.{four-at-unique}
 use Rattle.receiving.specs.Machine.{linkOf, testedOf, validOf}
 use Rattle.receiving.specs.Receive.{letsEnd, stateOf, answerIn, decodes, errs}
 use Rattle.receiving.specs.Counted.{counted, handOut, decodedOut}
 use Rattle.receiving.specs.Loop.{testedIn, Under, Turns, heldBytes}
-use Rattle.locked.specs.InLock.{InLock, GoesTo, Comes, Is, advancedOf, Steps, StepsFour, AllIdle}
+use Rattle.receiving.specs.Ranges.{InRange}
+use Rattle.locked.specs.InLock.{InLock, GoesTo, Comes, Is, advancedOf, ranOf, Steps, StepsFour, AllIdle, Ahead}
+use Rattle.locked.specs.declared.Run.{Run}
 use Rattle.receiving.specs.declared.Link.{Link}
 use Rattle.receiving.specs.declared.Held.{Held}
 use Rattle.receiving.specs.declared.Handed.{Handed}
@@ -184,6 +187,7 @@ module _ (line room : List ℕ) (p : Progress) (header payload : ℕ) (cm : Come
                   locked = lock-stays (l .lock) (cm .under .range .tested) (cm .under .range .invalid) (cm .lock .locked);
                   high = low-still;
                   few = subst (λ (r : Rate). r .invalid < 16) (rate-valid (l .rate) (cm .more) (cm .lock .few) (cm .lock .high)) (cm .lock .few);
+                  stays = refl;
                 };
             pos = refl;
             blocks = ap (λ (r : Rate). r .blocks) (sym (rate-valid (l .rate) (cm .more) (cm .lock .few) (cm .lock .high)));
@@ -232,31 +236,166 @@ module _ (line room : List ℕ) (p : Progress) (header payload : ℕ) (cm : Come
   held-on e = sym (ap (λ (b : Bool). cond b (diagramOf (p .receiver .state) (kindIn (p .receiver .held .class)) e) Init) (cm .lock .on))
 
   -- it goes to a state that answers it as decoded, whatever follows
-  pub step-steady : (s : State) (n : Handed) (r : Progress) → GoesTo s p → decodes s ≡ true → errs s ≡ false → n ≡ decodedOut (p .handed) (p .receiver .held .class)
-      → room′ ≡ take (p .at) room ++ (vectorBytes (p .receiver .held .vector) ++ drop (p .at + 10) room) → r ≡ advancedOf p history s k v n
-      → Steps line room room′ payload p r × (r .receiver .state ≡ s) × (r .receiver .held .class ≡ k)
+  step-steady : (s : State) (n : Handed) → GoesTo s (p .receiver .state) (p .receiver .held .class) → decodes s ≡ true → errs s ≡ false
+      → n ≡ decodedOut (p .handed) (p .receiver .held .class) → room′ ≡ take (p .at) room ++ (vectorBytes (p .receiver .held .vector) ++ drop (p .at + 10) room)
+      → Steps line room room′ payload p (advancedOf p history s k v n)
   unfolding GoesTo testedIn letsEnd
-  step-steady s n r goes d e en er q =
-      subst (λ (z : Progress). Steps line room room′ payload p z × (z .receiver .state ≡ s) × (z .receiver .held .class ≡ k))
-      (ap (λ (h : ℕ). advancedOf p h s k v n) (sym eh) ∙ sym q) (
-        step-one line room p header payload cm k v is s (p .receiver .held .vector) n room′
-            (sym (goes (follows (kindIn k))) ∙ held-on (follows (kindIn k))) (sym (as-decoded s _ d)) er
-            (en ∙ out-decoded (p .handed) s (testedIn (p .receiver .held)) d e),
-        refl,
-        refl,
-      )
+  step-steady s n goes d e en er =
+      subst (λ (h : ℕ). Steps line room room′ payload p (advancedOf p h s k v n)) (sym eh)
+      (step-one line room p header payload cm k v is s (p .receiver .held .vector) n room′
+      (sym (goes (follows (kindIn k))) ∙ held-on (follows (kindIn k))) (sym (as-decoded s _ d)) er
+      (en ∙ out-decoded (p .handed) s (testedIn (p .receiver .held)) d e))
 
   -- it goes to the state that the diagram says
-  pub step-general : (s : State) (w : Vector) (n : Handed) (r : Progress)
+  step-general : (s : State) (w : Vector) (n : Handed)
       → s ≡ diagramOf (p .receiver .state) (kindIn (p .receiver .held .class)) (follows (kindIn k))
       → vectorBytes w ≡ answerIn s (vectorBytes (p .receiver .held .vector))
       → n ≡ handOut (p .handed) (record { state = s; block = testedIn (p .receiver .held) })
-      → room′ ≡ take (p .at) room ++ (vectorBytes w ++ drop (p .at + 10) room) → r ≡ advancedOf p history s k v n
-      → Steps line room room′ payload p r
+      → room′ ≡ take (p .at) room ++ (vectorBytes w ++ drop (p .at + 10) room)
+      → Steps line room room′ payload p (advancedOf p history s k v n)
   unfolding testedIn letsEnd
-  step-general s w n r es ew en er q =
-      subst (Steps line room room′ payload p) (ap (λ (h : ℕ). advancedOf p h s k v n) (sym eh) ∙ sym q)
+  step-general s w n es ew en er =
+      subst (λ (h : ℕ). Steps line room room′ payload p (advancedOf p h s k v n)) (sym eh)
       (step-one line room p header payload cm k v is s w n room′ (es ∙ held-on (follows (kindIn k))) ew er en)
+
+-- ---- a run of blocks
+
+-- a run with one block more
+abbrev pub nextOf : Run → (history : ℕ) → State → Class → Vector → Handed → Run
+nextOf s history t k v n = record { at = s .at + 10; count = s .count + 1; history = history; state = t; class = k; vector = v; handed = n }
+
+-- the invalid headers that are counted on: of t tested ones the last 64 begin anew
+kept-next : (t i : ℕ) → cond (leb 64 (t % 64 + 1)) 0 (cond (ltb t 64) i 0) ≡ cond (ltb (t + 1) 64) i 0
+kept-next t i =
+    by-lt (t + 1) 64
+    (λ l.
+    let e : t % 64 ≡ t = omega arith in
+    rw (e, lt-leb 64 (t + 1) l, lt-ltb t 64 (omega arith), lt-ltb (t + 1) 64 l))
+    (λ l. rw (le-ltb (t + 1) 64 l)
+    (by-lt t 64
+    (λ m.
+    let e : t % 64 ≡ 63 = omega arith in
+    rw e)
+    (λ m. rw (le-ltb t 64 m) (both (leb 64 (t % 64 + 1))))))
+  where
+    both : (b : Bool) → _≡_ {A = ℕ} (cond b 0 0) 0
+    both true = refl
+    both false = refl
+
+-- the receiver that it has come to takes that block
+pub run-next : (p : Progress) (s : Run) (history : ℕ) (t : State) (k : Class) (v : Vector) (n : Handed) → InRange (ranOf p s .receiver .link) → InLock (ranOf p s)
+    → ranOf p s .receiver .link .rate .blocks + 1 < 19531 → advancedOf (ranOf p s) history t k v n ≡ ranOf p (nextOf s history t k v n)
+run-next p s history t k v n range il more =
+    λ i. record {
+      receiver =
+          record {
+            skip = false;
+            carried = p .receiver .carried;
+            link = record { edition = p .receiver .link .edition; lock = lock i; rate = rate i; history = history };
+            state = t;
+            have = true;
+            held = record { on = true; slipped = false; class = k; vector = v };
+          };
+      pos = pos i;
+      at = s .at + 10;
+      counts =
+          record {
+            tested = one-more (p .counts .tested) i;
+            slips = p .counts .slips;
+            headers = p .counts .headers;
+            types = p .counts .types;
+            codes = p .counts .codes;
+            sets = p .counts .sets;
+          };
+      handed = n;
+    }
+  where
+    one-more : (x : ℕ) → x + s .count + 1 ≡ x + (s .count + 1)
+    one-more x = omega arith
+
+    pos : p .pos + 66 * s .count + 66 ≡ p .pos + 66 * (s .count + 1)
+    pos = omega arith
+
+    tested : ((p .receiver .link .lock .tested + s .count) % 64 + 1) % 64 ≡ (p .receiver .link .lock .tested + (s .count + 1)) % 64
+    tested = omega arith
+
+    lock : lockOf (ranOf p s .receiver .link .lock) true ≡ ranOf p (nextOf s history t k v n) .receiver .link .lock
+    lock =
+        sym (lock-valid (ranOf p s .receiver .link .lock) (range .tested) (range .invalid) refl)
+        ∙ (λ i. record {
+          tested = tested i;
+          invalid =
+              (kept-next (p .receiver .link .lock .tested + s .count) (p .receiver .link .lock .invalid)
+              ∙ ap (λ (x : ℕ). cond (ltb x 64) (p .receiver .link .lock .invalid) 0) (one-more (p .receiver .link .lock .tested))) i;
+          locked = true;
+        })
+
+    rate : rateOf (ranOf p s .receiver .link .rate) true true true ≡ ranOf p (nextOf s history t k v n) .receiver .link .rate
+    rate =
+        sym (rate-valid (ranOf p s .receiver .link .rate) more (il .few) refl)
+        ∙ (λ i. record { blocks = one-more (p .receiver .link .rate .blocks) i; invalid = p .receiver .link .rate .invalid; high = false })
+
+-- a run of no block
+pub run-none : (p : Progress) (s : Run) → InLock p → p .receiver .link .lock .tested < 64
+    → s ≡ record { at = p .at; count = 0; history = p .receiver .link .history; state = p .receiver .state; class = p .receiver .held .class; vector = p .receiver .held .vector; handed = p .handed }
+    → ranOf p s ≡ p
+run-none p s il small e =
+    ap (ranOf p) e
+    ∙ (λ i. record {
+      receiver =
+          record {
+            skip = sym (il .skip) i;
+            carried = p .receiver .carried;
+            link =
+                record {
+                  edition = p .receiver .link .edition;
+                  lock = record { tested = tested i; invalid = invalid i; locked = sym (il .locked) i };
+                  rate = record { blocks = add-zero (p .receiver .link .rate .blocks) i; invalid = p .receiver .link .rate .invalid; high = sym (il .high) i };
+                  history = p .receiver .link .history;
+                };
+            state = p .receiver .state;
+            have = sym (il .have) i;
+            held = record { on = sym (il .on) i; slipped = sym (il .stays) i; class = p .receiver .held .class; vector = p .receiver .held .vector };
+          };
+      pos = pos i;
+      at = p .at;
+      counts =
+          record {
+            tested = add-zero (p .counts .tested) i;
+            slips = p .counts .slips;
+            headers = p .counts .headers;
+            types = p .counts .types;
+            codes = p .counts .codes;
+            sets = p .counts .sets;
+          };
+      handed = p .handed;
+    })
+  where
+    tested : (p .receiver .link .lock .tested + 0) % 64 ≡ p .receiver .link .lock .tested
+    tested = omega arith
+
+    invalid : cond (ltb (p .receiver .link .lock .tested + 0) 64) (p .receiver .link .lock .invalid) 0 ≡ p .receiver .link .lock .invalid
+    invalid = rw (lt-ltb (p .receiver .link .lock .tested + 0) 64 (omega arith))
+
+    pos : p .pos + 66 * 0 ≡ p .pos
+    pos = omega arith
+
+-- one block of a run, by the code's values
+module _ (line room : List ℕ) (p : Progress) (s : Run) (header payload : ℕ) (cm : Comes line room (ranOf p s) header payload) (k : Class) (v : Vector)
+    (is : Is (ranOf p s) header payload k v) (history : ℕ) (eh : history ≡ lineAfter payload (s .history)) (room′ : List ℕ) where
+  onward : (t : State) (n : Handed) → Steps line room room′ payload (ranOf p s) (advancedOf (ranOf p s) history t k v n)
+      → Steps line room room′ payload (ranOf p s) (ranOf p (nextOf s history t k v n))
+  onward t n = subst (Steps line room room′ payload (ranOf p s)) (run-next p s history t k v n (cm .under .range) (cm .lock) (cm .more))
+
+  pub run-steady : (t : State) (n : Handed) → GoesTo t (s .state) (s .class) → decodes t ≡ true → errs t ≡ false → n ≡ decodedOut (s .handed) (s .class)
+      → room′ ≡ take (s .at) room ++ (vectorBytes (s .vector) ++ drop (s .at + 10) room) → Steps line room room′ payload (ranOf p s) (ranOf p (nextOf s history t k v n))
+  run-steady t n goes d e en er = onward t n (step-steady line room (ranOf p s) header payload cm k v is history eh room′ t n goes d e en er)
+
+  pub run-general : (t : State) (w : Vector) (n : Handed) → t ≡ diagramOf (s .state) (kindIn (s .class)) (follows (kindIn k))
+      → vectorBytes w ≡ answerIn t (vectorBytes (s .vector))
+      → n ≡ handOut (s .handed) (record { state = t; block = testedIn (ranOf p s .receiver .held) })
+      → room′ ≡ take (s .at) room ++ (vectorBytes w ++ drop (s .at + 10) room) → Steps line room room′ payload (ranOf p s) (ranOf p (nextOf s history t k v n))
+  run-general t w n et ew en er = onward t n (step-general line room (ranOf p s) header payload cm k v is history eh room′ t w n et ew en er)
 
 -- ---- four blocks
 
@@ -352,6 +491,21 @@ module _ (line r₀ r₁ r₂ r₃ : List ℕ) (f : Four) (p₀ p₁ p₂ p₃ :
       pub idle-fourth : descrambled (f .d) (p₃ .receiver .link .history) ≡ 0x1e
       idle-fourth = ap (descrambled (f .d)) (v .history ∙ ap (lineAfter (f .c)) second) ∙ x .d
 
+-- an or is 0 only where both are, an xor only of equals
+or-none : (a b : ℕ) → bitOr a b ≡ 0 → (a ≡ 0) × (b ≡ 0)
+or-none a b e = (omega (arith, or-add-and a b, and-le-l a b, and-le-r a b), omega (arith, or-add-and a b, and-le-l a b, and-le-r a b))
+
+xor-none : (a b : ℕ) → bitXor a b ≡ 0 → a ≡ b
+xor-none a b e = omega (arith, xor-add-and a b, and-le-l a b, and-le-r a b)
+
+-- four words that differ nowhere from one are all that one
+pub all-same : (a b c d x : ℕ) → bitOr (bitOr (bitOr (bitXor a x) (bitXor b x)) (bitXor c x)) (bitXor d x) ≡ 0 → (a ≡ x) × (b ≡ x) × (c ≡ x) × (d ≡ x)
+all-same a b c d x e =
+    let p = or-none (bitOr (bitOr (bitXor a x) (bitXor b x)) (bitXor c x)) (bitXor d x) e in
+    let q = or-none (bitOr (bitXor a x) (bitXor b x)) (bitXor c x) (p .0) in
+    let r = or-none (bitXor a x) (bitXor b x) (q .0) in
+    (xor-none a x (r .0), xor-none b x (r .1), xor-none c x (q .1), xor-none d x (p .1))
+
 -- four words, each descrambled after the one before, that are all idles
 pub all-idles : (f : Four) (h wa ha wb hb wc hc wd : ℕ)
     → wa ≡ descrambled (f .a) h → ha ≡ lineAfter (f .a) h → wb ≡ descrambled (f .b) ha → hb ≡ lineAfter (f .b) ha
@@ -366,14 +520,30 @@ all-idles f h wa ha wb hb wc hc wd ea la eb lb ec lc ed a b c d =
       d = sym (ed ∙ ap (descrambled (f .d)) n) ∙ d;
     }
 
--- .. whichever way the four blocks were read
-pub idle-all : (line : List ℕ) (pos h : ℕ) (f : Four) → Fours line pos f → AllIdle h f → (g : Four) → Fours line pos g → AllIdle h g
-idle-all line pos h f p a g q = subst (AllIdle h) (four-at-unique line pos f g p q) a
+-- ---- as many of four blocks as are decoded at once
 
--- the loop over blocks in lock comes nearer to its end: it goes on only after a block
-pub nearer : (n a b : ℕ) (more : Bool) → more ≡ true → a ≤ b → b < n → n - b + cond (ltb a b) 1 0 < n - a + cond more 1 0
-nearer n a b more e past ends = rw e (go (ltb a b) refl)
-  where
-    go : (m : Bool) → ltb a b ≡ m → n - b + cond m 1 0 < n - a + 1
-    go true q = omega (arith, ltb-true a b q)
-    go false q = omega arith
+-- four are ahead
+pub ahead-four : (line : List ℕ) (pos : ℕ) (f : Four) → Fours line pos f → Ahead line pos 4 f
+ahead-four line pos f fs =
+    let e = each-header line pos (f .headers) (sym (fs .headers)) in
+    record { a = λ l. (e .0, fs .a); b = λ l. (e .1, fs .b); c = λ l. (e .2, fs .c); d = λ l. (e .3, fs .d) }
+
+-- .. or none
+pub ahead-none : (line : List ℕ) (pos : ℕ) (f : Four) → Ahead line pos 0 f
+ahead-none line pos f =
+    record { a = λ l. absurd (omega (arith, l)); b = λ l. absurd (omega (arith, l)); c = λ l. absurd (omega (arith, l)); d = λ l. absurd (omega (arith, l)) }
+
+-- .. or one less after the first
+pub ahead-rest : (line : List ℕ) (pos n : ℕ) (f g : Four) → Ahead line pos n f → g .headers ≡ f .headers / 4 → g .a ≡ f .b → g .b ≡ f .c → g .c ≡ f .d → n ≤ 4
+    → Ahead line (pos + 66) (n - 1) g
+ahead-rest line pos n f g h eh ea eb ec le =
+    let two : pos + 132 ≡ pos + 66 + 66 = omega arith in
+    let three : pos + 198 ≡ pos + 66 + 132 = omega arith in
+    let q : g .headers / 4 ≡ f .headers / 16 = omega (arith, eh) in
+    let r : g .headers / 16 ≡ f .headers / 64 = omega (arith, eh) in
+    record {
+      a = λ l. let x = h .b (omega arith) in (ap (λ (y : ℕ). y % 4) eh ∙ x .0, ea ∙ x .1);
+      b = λ l. let x = h .c (omega arith) in (ap (λ (y : ℕ). y % 4) q ∙ x .0 ∙ ap (headerAt line) two, eb ∙ x .1 ∙ ap (payloadAt line) two);
+      c = λ l. let x = h .d (omega arith) in (ap (λ (y : ℕ). y % 4) r ∙ x .0 ∙ ap (headerAt line) three, ec ∙ x .1 ∙ ap (payloadAt line) three);
+      d = λ l. absurd (omega arith);
+    }

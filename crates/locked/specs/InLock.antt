@@ -1,8 +1,9 @@
 -- A reviewer can skip this file. Blocks in lock: what the code's stretches do, in the words of Machine and Loop.
 use mathlib.Core.Path.{_≡_}
-use mathlib.Core.Bool.{Bool, true, false}
+use mathlib.Core.Bool.{Bool, true, false, cond}
 use mathlib.Core.List.{List}
-use Prim.Native.Nat.{ℕ, _+_, _*_, _<_}
+use Prim.Native.Nat.{ℕ, _+_, _*_, _/_, _%_, _≤_, _<_}
+use lib.Dec.{ltb}
 use lib.ListN.{length}
 use Rattle.block.specs.Block.{decoded, classOf, kindIn, isError}
 use Rattle.block.specs.declared.Class.{Class}
@@ -19,6 +20,7 @@ use Rattle.receiving.specs.Machine.{validOf}
 use Rattle.receiving.specs.Loop.{Under, Turns}
 use Rattle.receiving.specs.declared.Handed.{Handed}
 use Rattle.receiving.specs.declared.Progress.{Progress}
+use Rattle.locked.specs.declared.Run.{Run}
 
 -- locked and not high, at the first bit of a block, with a block held that was tested so
 pub record InLock (p : Progress) : Type 0 where
@@ -29,10 +31,11 @@ pub record InLock (p : Progress) : Type 0 where
   pub locked : p .receiver .link .lock .locked ≡ true
   pub high : p .receiver .link .rate .high ≡ false
   pub few : p .receiver .link .rate .invalid < 16
+  pub stays : p .receiver .held .slipped ≡ false
 
--- the block held goes to this state, whatever follows
-unfoldable pub GoesTo : State → Progress → Type 0
-GoesTo s p = (e : Bool) → diagramOf (p .receiver .state) (kindIn (p .receiver .held .class)) e ≡ s
+-- a block of this class goes from one state to another, whatever follows
+unfoldable pub GoesTo : (to from : State) → Class → Type 0
+GoesTo to from k = (e : Bool) → diagramOf from (kindIn k) e ≡ to
 
 -- a block with a valid header comes next, and ends neither the line nor the window
 pub record Comes (line room : List ℕ) (p : Progress) (h x : ℕ) : Type 0 where
@@ -82,6 +85,62 @@ advancedOf p history s k v n =
           };
       handed = n;
     }
+
+-- the receiver that a run of blocks has come to, from where it began
+abbrev pub ranOf : Progress → Run → Progress
+ranOf p s =
+    record {
+      receiver =
+          record {
+            skip = false;
+            carried = p .receiver .carried;
+            link =
+                record {
+                  edition = p .receiver .link .edition;
+                  lock =
+                      record {
+                        tested = (p .receiver .link .lock .tested + s .count) % 64;
+                        invalid = cond (ltb (p .receiver .link .lock .tested + s .count) 64) (p .receiver .link .lock .invalid) 0;
+                        locked = true;
+                      };
+                  rate = record { blocks = p .receiver .link .rate .blocks + s .count; invalid = p .receiver .link .rate .invalid; high = false };
+                  history = s .history;
+                };
+            state = s .state;
+            have = true;
+            held = record { on = true; slipped = false; class = s .class; vector = s .vector };
+          };
+      pos = p .pos + 66 * s .count;
+      at = s .at;
+      counts =
+          record {
+            tested = p .counts .tested + s .count;
+            slips = p .counts .slips;
+            headers = p .counts .headers;
+            types = p .counts .types;
+            codes = p .counts .codes;
+            sets = p .counts .sets;
+          };
+      handed = s .handed;
+    }
+
+-- in lock, with n blocks more, which end neither the line nor the window
+pub record Ready (line room : List ℕ) (p : Progress) (n : ℕ) : Type 0 where
+  pub under : Under line room p
+  pub lock : InLock p
+  pub here : p .pos + 66 * n < 8 * length line
+  pub more : p .receiver .link .rate .blocks + n < 19531
+
+-- n groups of four blocks end neither a line of so many bytes nor the window
+abbrev pub Groups : ℕ → Progress → ℕ → Type 0
+Groups bytes p n = (p .pos / 8 + 33 * n + 1 ≤ bytes) × (p .receiver .link .rate .blocks + 4 * n < 19531)
+
+-- n of four blocks, the first of them at bit pos
+pub record Ahead (line : List ℕ) (pos n : ℕ) (f : Four) : Type 0 where
+  pub a : 0 < n → (f .headers % 4 ≡ headerAt line pos) × (f .a ≡ payloadAt line pos)
+  pub b : 1 < n → (f .headers / 4 % 4 ≡ headerAt line (pos + 66)) × (f .b ≡ payloadAt line (pos + 66))
+  pub c : 2 < n → (f .headers / 16 % 4 ≡ headerAt line (pos + 132)) × (f .c ≡ payloadAt line (pos + 132))
+  pub d : 3 < n → (f .headers / 64 % 4 ≡ headerAt line (pos + 198)) × (f .d ≡ payloadAt line (pos + 198))
 
 -- one block of a stretch: it is tested, the block held is answered, and it is held in turn
 pub record Steps (line room room′ : List ℕ) (payload : ℕ) (p p′ : Progress) : Type 0 where

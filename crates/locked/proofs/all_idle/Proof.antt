@@ -2,8 +2,7 @@ use mathlib.Core.Path.{subst, sym}
 use Prim.Native.Nat.{ℕ, _^_, _<_}
 use borrow.Author.Tests.{eqb-true}
 use Rattle.scrambler.proofs.Laws.{lineAfter-lt}
-use Rattle.receiving.proofs.Stretching.{never}
-use Rattle.locked.proofs.InLock.{all-idles}
+use Rattle.locked.proofs.InLock.{all-idles, all-same}
 use borrow.Author.Needs.{needs}
 use Rattle.locked.proofs.all_idle.Statement.{statement}
 use Rattle.locked.proofs.all_idle.Tie as tie
@@ -21,16 +20,9 @@ descramble-requires-4 : tie.Need-descramble-requires-4
 descramble-requires-4 c κs = subst (λ (n : ℕ). n < 2 ^ 58) (sym (c .descramble3 .ensures .1)) (lineAfter-lt (c .before .before .before .args .f .c) (c .before .descramble2 .result .history) (subst (λ (n : ℕ). n < 2 ^ 58) (sym (c .before .descramble2 .ensures .1)) (lineAfter-lt (c .before .before .before .args .f .b) (c .before .before .descramble .result .history) (subst (λ (n : ℕ). n < 2 ^ 58) (sym (c .before .before .descramble .ensures .1)) (lineAfter-lt (c .before .before .before .args .f .a) (c .before .before .before .args .history) (c .before .before .before .pre))))))
 
 returns : tie.Need-returns
-returns c = λ e. all-idles (c .before .before .before .before .before .before .before .before .before .before .before .args .f) (c .before .before .before .before .before .before .before .before .before .before .before .args .history) (c .before .before .before .before .before .before .before .before .before .before .descramble .result .word) (c .before .before .before .before .before .before .before .before .before .before .descramble .result .history) (c .before .before .before .before .before .before .before .before .before .descramble2 .result .word) (c .before .before .before .before .before .before .before .before .before .descramble2 .result .history) (c .before .before .before .before .before .before .before .before .descramble3 .result .word) (c .before .before .before .before .before .before .before .before .descramble3 .result .history) (c .before .before .before .before .before .before .before .descramble4 .result .word) (c .before .before .before .before .before .before .before .before .before .before .descramble .ensures .0) (c .before .before .before .before .before .before .before .before .before .before .descramble .ensures .1) (c .before .before .before .before .before .before .before .before .before .descramble2 .ensures .0) (c .before .before .before .before .before .before .before .before .before .descramble2 .ensures .1) (c .before .before .before .before .before .before .before .before .descramble3 .ensures .0) (c .before .before .before .before .before .before .before .before .descramble3 .ensures .1) (c .before .before .before .before .before .before .before .descramble4 .ensures .0) (c .before .before .before .before .before .if1 .taken) (c .before .before .before .if2 .taken) (c .before .if3 .taken) (eqb-true (c .before .before .before .before .before .before .before .descramble4 .result .word) 0x1e e)
-
-returns-2 : tie.Need-returns-2
-returns-2 c = λ e. never e
-
-returns-3 : tie.Need-returns-3
-returns-3 c = λ e. never e
-
-returns-4 : tie.Need-returns-4
-returns-4 c = λ e. never e
+returns c = λ e.
+    let same = all-same (c .before .before .before .before .before .before .before .descramble .result .word) (c .before .before .before .before .before .before .descramble2 .result .word) (c .before .before .before .before .before .descramble3 .result .word) (c .before .before .before .before .descramble4 .result .word) 0x1e (eqb-true _ 0 e) in
+    all-idles (c .before .before .before .before .before .before .before .before .args .f) (c .before .before .before .before .before .before .before .before .args .history) (c .before .before .before .before .before .before .before .descramble .result .word) (c .before .before .before .before .before .before .before .descramble .result .history) (c .before .before .before .before .before .before .descramble2 .result .word) (c .before .before .before .before .before .before .descramble2 .result .history) (c .before .before .before .before .before .descramble3 .result .word) (c .before .before .before .before .before .descramble3 .result .history) (c .before .before .before .before .descramble4 .result .word) (c .before .before .before .before .before .before .before .descramble .ensures .0) (c .before .before .before .before .before .before .before .descramble .ensures .1) (c .before .before .before .before .before .before .descramble2 .ensures .0) (c .before .before .before .before .before .before .descramble2 .ensures .1) (c .before .before .before .before .before .descramble3 .ensures .0) (c .before .before .before .before .before .descramble3 .ensures .1) (c .before .before .before .before .descramble4 .ensures .0) (same .0) (same .1) (same .2) (same .3)
 
 pub all-idle-spec : {M : Type 1} → statement M
 all-idle-spec =
@@ -40,7 +32,4 @@ all-idle-spec =
     descramble-requires-2
     descramble-requires-3
     descramble-requires-4
-    returns
-    returns-2
-    returns-3
-    returns-4)
+    returns)

@@ -1,46 +1,90 @@
 use native.Mathlib.Omega.{arith}
 use denote.Ref.{now}
-use mathlib.Core.Bool.{cond}
-use Prim.Native.Nat.{_+_, _-_, _*_}
+use mathlib.Core.Path.{_≡_, sym, subst}
+use Prim.Native.Nat.{ℕ, _+_, _*_, _≤_, _<_}
 use lib.ListN.{length}
+use Rattle.blocks.specs.Blocks.{Fours}
 use Rattle.receiving.specs.Loop.{Stretches}
-use Rattle.locked.specs.InLock.{InLock}
+use Rattle.receiving.specs.declared.Progress.{Progress}
 use Rattle.receiving.proofs.Stretching.{stretch-first, stretch-more}
-use Rattle.locked.proofs.InLock.{nearer}
+use Rattle.locked.specs.InLock.{InLock, ranOf}
 use Rattle.locked.proofs.blocks_in_lock.Statement.{statement}
 use Rattle.locked.proofs.blocks_in_lock.Tie as tie
 
 abbrev Inv-loop : tie.InvT-loop
-Inv-loop line room₀ p₀ more₀ room p more = Stretches line room₀ room p₀ p × InLock p
+Inv-loop line room₀ p sh from₀ s₀ left₀ room from s left = Stretches line room₀ room p (ranOf p s) × InLock (ranOf p s) × (sh < 8) × (0 < left → (8 * from + sh ≡ p .pos + 66 * s .count) × (from + 33 * left + 1 ≤ length line) × (p .receiver .link .rate .blocks + s .count + 4 * left < 19531))
 
 abbrev μ-loop : tie.MeasureT-loop
-μ-loop line room₀ p₀ more₀ room p more = 8 * length line - p .pos + cond more 1 0
+μ-loop line room₀ p sh from₀ s₀ left₀ room from s left = left
+
+starting-requires : tie.Need-starting-requires Inv-loop μ-loop
+starting-requires c κs = (c .before .before .before .before .pre .2, c .before .before .before .before .pre .1 .range .tested)
+
+groups-ahead-requires : tie.Need-groups-ahead-requires Inv-loop μ-loop
+groups-ahead-requires c κs = (c .before .before .before .before .before .pre .0, c .before .before .before .before .before .pre .3, c .before .before .before .before .before .pre .1 .range .blocks)
 
 loop-holds : tie.Need-loop-holds Inv-loop μ-loop
-loop-holds c = (stretch-first (now (c .before .before .args .line)) (now (c .before .before .args .room)) (c .before .before .args .start) (c .before .before .pre .1) (c .before .before .pre .3), c .before .before .pre .2)
+loop-holds c = let p = c .before .before .before .before .before .before .args .p in (
+  subst (Stretches (now (c .before .before .before .before .before .before .args .line)) (now (c .before .before .before .before .before .before .args .room)) (now (c .before .before .before .before .before .before .args .room)) p) (sym (c .before .starting .ensures .0)) (stretch-first (now (c .before .before .before .before .before .before .args .line)) (now (c .before .before .before .before .before .before .args .room)) p (c .before .before .before .before .before .before .pre .1) (c .before .before .before .before .before .before .pre .3)),
+  subst InLock (sym (c .before .starting .ensures .0)) (c .before .before .before .before .before .before .pre .2),
+  omega arith,
+  λ l. (omega (arith, c .before .starting .ensures .1), omega (arith, c .groups-ahead .ensures .0), omega (arith, c .before .starting .ensures .1, c .groups-ahead .ensures .1)),
+)
 
-groups-requires : tie.Need-groups-requires Inv-loop μ-loop
-groups-requires c κs = (c .before .before .before .before .before .pre .0, c .before .before .loop .inv .0 .under, c .before .before .loop .inv .1, c .before .before .loop .inv .0 .ends)
+four-at-requires : tie.Need-four-at-requires Inv-loop μ-loop
+four-at-requires c κs = let h = c .before .before .loop .inv .3 (c .before .loop-test .taken) in (omega (arith, h .1, c .before .loop-test .taken), c .before .before .loop .inv .2)
 
-single-requires : tie.Need-single-requires Inv-loop μ-loop
-single-requires c κs = (c .before .before .before .before .before .before .before .before .before .pre .0, c .before .before .before .groups .ensures .0 .under, c .before .before .before .groups .ensures .1, c .before .before .before .groups .ensures .0 .ends)
+group-requires : tie.Need-group-requires Inv-loop μ-loop
+group-requires c κs = let h = c .before .before .before .loop .inv .3 (c .before .before .loop-test .taken) in (
+  c .before .before .before .before .before .before .before .before .before .before .pre .0,
+  record {
+    under = c .before .before .before .loop .inv .0 .under;
+    lock = c .before .before .before .loop .inv .1;
+    here = omega (arith, h .0, h .1, c .before .before .before .loop .inv .2, c .before .before .loop-test .taken);
+    more = omega (arith, h .2, c .before .before .loop-test .taken);
+  },
+  subst (λ (pos : ℕ). Fours (now (c .before .before .before .before .before .before .before .before .before .before .args .line)) pos (c .four-at .result)) (h .0) (c .four-at .ensures),
+)
+
+add-from : tie.Need-add-from Inv-loop μ-loop
+add-from c = let h = c .before .before .before .before .before .before .loop .inv .3 (c .before .before .before .before .before .loop-test .taken) in omega (arith, h .1, c .before .before .before .before .before .loop-test .taken, c .before .before .before .before .before .before .before .before .before .before .before .before .before .pre .0)
+
+add-if1 : tie.Need-add-if1 Inv-loop μ-loop
+add-if1 c = let h = c .before .before .before .before .before .before .loop .inv .3 (c .before .before .before .before .before .loop-test .taken) in omega (arith, h .2, c .before .before .before .before .before .loop-test .taken)
+
+sub-left : tie.Need-sub-left Inv-loop μ-loop
+sub-left c = omega (arith, c .before .before .before .before .before .before .before .loop-test .taken)
 
 loop-less : tie.Need-loop-less Inv-loop μ-loop
-loop-less c = nearer (8 * length (now (c .before .before .before .before .before .before .before .before .before .before .before .before .before .args .line))) (c .before .before .before .before .before .before .before .before .before .before .loop .p .pos) (c .before .before .before .single .result .pos) (c .before .before .before .before .before .before .before .before .before .before .loop .more) (c .before .before .before .before .before .before .before .before .before .loop-test .taken) (omega (arith, c .before .before .before .before .before .before .before .groups .ensures .0 .past, c .before .before .before .single .ensures .0 .past)) (c .before .before .before .single .ensures .0 .ends)
+loop-less c = omega (arith, c .before .before .before .before .before .before .before .loop-test .taken)
 
 loop-again : tie.Need-loop-again Inv-loop μ-loop
-loop-again c =
-    let line = now (c .before .before .before .before .before .before .before .before .before .before .before .before .before .args .line) in (
-      stretch-more line (now (c .before .before .before .before .before .before .before .before .before .before .before .before .before .args .room)) (c .before .before .before .before .before .before .before .before .before .before .loop .room) (c .before .before .before .single .last .1 .0) (c .before .before .before .before .before .before .before .before .before .before .before .before .before .args .start) (c .before .before .before .before .before .before .before .before .before .before .loop .p) (c .before .before .before .single .result) (c .before .before .before .before .before .before .before .before .before .before .loop .inv .0)
-          (stretch-more line (c .before .before .before .before .before .before .before .before .before .before .loop .room) (c .before .before .before .before .before .before .before .groups .last .1 .0) (c .before .before .before .single .last .1 .0) (c .before .before .before .before .before .before .before .before .before .before .loop .p) (c .before .before .before .before .before .before .before .groups .result) (c .before .before .before .single .result) (c .before .before .before .before .before .before .before .groups .ensures .0) (c .before .before .before .single .ensures .0)),
-      c .before .before .before .single .ensures .1,
-    )
+loop-again c = let h = c .before .before .before .before .before .before .before .before .loop .inv .3 (c .before .before .before .before .before .before .before .loop-test .taken) in (
+  stretch-more (now (c .before .before .before .before .before .before .before .before .before .before .before .before .before .before .before .args .line)) (now (c .before .before .before .before .before .before .before .before .before .before .before .before .before .before .before .args .room)) (c .before .before .before .before .before .before .before .before .loop .room) (c .before .before .before .before .group .last .1 .0) (c .before .before .before .before .before .before .before .before .before .before .before .before .before .before .before .args .p) (ranOf (c .before .before .before .before .before .before .before .before .before .before .before .before .before .before .before .args .p) (c .before .before .before .before .before .before .before .before .loop .s)) (ranOf (c .before .before .before .before .before .before .before .before .before .before .before .before .before .before .before .args .p) (c .before .before .before .before .group .result)) (c .before .before .before .before .before .before .before .before .loop .inv .0) (c .before .before .before .before .group .ensures .0),
+  c .before .before .before .before .group .ensures .1,
+  c .before .before .before .before .before .before .before .before .loop .inv .2,
+  λ l. (omega (arith, h .0, c .if1 .taken), omega (arith, h .1, l), omega (arith, h .2, c .if1 .taken, l)),
+)
+
+loop-less-2 : tie.Need-loop-less-2 Inv-loop μ-loop
+loop-less-2 c = c .before .before .before .before .before .before .before .loop-test .taken
+
+loop-again-2 : tie.Need-loop-again-2 Inv-loop μ-loop
+loop-again-2 c = (
+  stretch-more (now (c .before .before .before .before .before .before .before .before .before .before .before .before .before .before .before .args .line)) (now (c .before .before .before .before .before .before .before .before .before .before .before .before .before .before .before .args .room)) (c .before .before .before .before .before .before .before .before .loop .room) (c .before .before .before .before .group .last .1 .0) (c .before .before .before .before .before .before .before .before .before .before .before .before .before .before .before .args .p) (ranOf (c .before .before .before .before .before .before .before .before .before .before .before .before .before .before .before .args .p) (c .before .before .before .before .before .before .before .before .loop .s)) (ranOf (c .before .before .before .before .before .before .before .before .before .before .before .before .before .before .before .args .p) (c .before .before .before .before .group .result)) (c .before .before .before .before .before .before .before .before .loop .inv .0) (c .before .before .before .before .group .ensures .0),
+  c .before .before .before .before .group .ensures .1,
+  c .before .before .before .before .before .before .before .before .loop .inv .2,
+  λ l. absurd (omega (arith, l)),
+)
+
+ran-requires : tie.Need-ran-requires Inv-loop μ-loop
+ran-requires c κs = let u = c .before .loop .inv .0 .under in (c .before .before .before .before .before .before .before .before .pre .1 .range .tested, u .range .blocks, omega (arith, u .pos, c .before .before .before .before .before .before .before .before .pre .0), omega (arith, u .counts .tested, u .pos, c .before .before .before .before .before .before .before .before .pre .0))
 
 same-length : tie.Need-same-length Inv-loop μ-loop
-same-length c = c .before .loop .inv .0 .len
+same-length c = c .before .before .loop .inv .0 .len
 
 returns : tie.Need-returns Inv-loop μ-loop
-returns c = c .before .loop .inv .0
+returns c = subst (Stretches (now (c .before .before .before .before .before .before .before .before .before .args .line)) (now (c .before .before .before .before .before .before .before .before .before .args .room)) (c .before .before .loop .room) (c .before .before .before .before .before .before .before .before .before .args .p)) (sym (c .ran .ensures)) (c .before .before .loop .inv .0)
 
 pub blocks-in-lock-spec : {M : Type 1} → statement M
 blocks-in-lock-spec =
@@ -48,10 +92,18 @@ blocks-in-lock-spec =
     (tie.spec
     Inv-loop
     μ-loop
+    starting-requires
+    groups-ahead-requires
     loop-holds
-    groups-requires
-    single-requires
+    four-at-requires
+    group-requires
+    add-from
+    add-if1
+    sub-left
     loop-less
     loop-again
+    loop-less-2
+    loop-again-2
+    ran-requires
     same-length
     returns)

@@ -3,6 +3,7 @@ use Rattle.block.specs.Block.{decoded, kindIn}
 use Rattle.block.specs.declared.Class.{Class}
 use Rattle.diagrams.specs.Diagram.{diagramOf}
 use Rattle.diagrams.specs.declared.State.{State}
+use Rattle.scrambler.specs.Scrambler.{descrambled}
 use Rattle.decoding.proofs.Rows.{data-answer}
 use Rattle.locked.specs.InLock.{GoesTo}
 use Rattle.locked.proofs.InLock.{data-data}
@@ -17,9 +18,8 @@ octets-requires : tie.Need-octets-requires
 octets-requires c κs = search needs
 
 steady-step-requires : tie.Need-steady-step-requires
-steady-step-requires c κs =
-    let ed = c .before .before .before .before .before .before .before .args .p .receiver .link .edition in
-    (c .before .before .before .before .before .before .before .pre .0, c .before .before .before .before .before .before .before .pre .1, record { class = data-answer ed 2 _ refl .0; vector = c .octets .ensures ed ∙ ap (decoded ed 2) (c .before .before .descramble .ensures .0); good = refl }, c .before .before .before .before .before .before .before .pre .2, refl, refl, c .before .before .descramble .ensures .1)
+steady-step-requires c κs = let ed = c .before .before .before .before .before .args .p .receiver .link .edition in
+    (c .before .before .before .before .before .pre .0, c .before .before .before .before .before .pre .1, record { class = data-answer ed 2 (descrambled (c .before .before .before .before .before .args .payload) (c .before .before .before .before .before .args .s .history)) refl .0; vector = c .octets .ensures ed ∙ ap (decoded ed 2) (c .before .before .descramble .ensures .0); good = refl }, c .before .before .before .before .before .pre .2, refl, refl, c .before .before .descramble .ensures .1)
 
 same-length : tie.Need-same-length
 same-length c = search needs
@@ -29,6 +29,7 @@ unfolding GoesTo
 returns c = (
   c .before .before .steady-step .ensures .0,
   λ e. ap₂ (λ (s : State) (k : Class). diagramOf s (kindIn k) e) (c .before .before .steady-step .ensures .1) (c .before .before .steady-step .ensures .2) ∙ data-data e,
+  c .before .before .steady-step .ensures .3,
 )
 
 pub data-step-spec : {M : Type 1} → statement M

@@ -3,13 +3,17 @@ use mathlib.Core.Path.{refl, ap, _∙_}
 use Rattle.block.specs.declared.Kind.{Kind}
 use Rattle.block.specs.Block.{kindIn}
 use Rattle.diagrams.specs.Diagram.{diagramOf}
-use Rattle.locked.proofs.InLock.{one-fits, under-wide, step-general}
+use Rattle.locked.specs.InLock.{ranOf}
+use Rattle.locked.proofs.InLock.{one-fits, run-general}
 use borrow.Author.Needs.{needs}
 use Rattle.locked.proofs.general_step.Statement.{statement}
 use Rattle.locked.proofs.general_step.Tie as tie
 
 add-end : tie.Need-add-end
-add-end c = search (needs, one-fits (now (c .before .before .before .args .line)) (now (c .before .before .before .args .room)) (c .before .before .before .args .p) (c .before .before .before .args .b .header) (c .before .before .before .args .b .payload) (c .before .before .before .pre .1) (c .before .before .before .args .class) (c .before .before .before .args .vector) (c .before .before .before .pre .2))
+add-end c = search (needs, one-fits (now (c .before .before .before .args .line)) (now (c .before .before .before .args .room)) (ranOf (c .before .before .before .args .p) (c .before .before .before .args .s)) (c .before .before .before .args .b .header) (c .before .before .before .args .b .payload) (c .before .before .before .pre .1) (c .before .before .before .args .class) (c .before .before .before .args .vector) (c .before .before .before .pre .2))
+
+add-count : tie.Need-add-count
+add-count c = search needs
 
 kind-in-requires : tie.Need-kind-in-requires
 kind-in-requires c κs = search needs
@@ -21,35 +25,28 @@ hand-out-requires : tie.Need-hand-out-requires
 hand-out-requires c κs = search needs
 
 put-vector-requires : tie.Need-put-vector-requires
-put-vector-requires c κs = one-fits (now (c .before .before .before .before .before .before .before .before .before .before .before .before .args .line)) (now (c .before .before .before .before .before .before .before .before .before .before .before .before .args .room)) (c .before .before .before .before .before .before .before .before .before .before .before .before .args .p) (c .before .before .before .before .before .before .before .before .before .before .before .before .args .b .header) (c .before .before .before .before .before .before .before .before .before .before .before .before .args .b .payload) (c .before .before .before .before .before .before .before .before .before .before .before .before .pre .1) (c .before .before .before .before .before .before .before .before .before .before .before .before .args .class) (c .before .before .before .before .before .before .before .before .before .before .before .before .args .vector) (c .before .before .before .before .before .before .before .before .before .before .before .before .pre .2)
-
-advanced-requires : tie.Need-advanced-requires
-advanced-requires c κs =
-    let u = c .before .before .before .before .before .before .before .before .before .before .before .before .before .before .before .pre .1 .under in
-    let w = under-wide (now (c .before .before .before .before .before .before .before .before .before .before .before .before .before .before .before .args .line)) (now (c .before .before .before .before .before .before .before .before .before .before .before .before .before .before .before .args .room)) (c .before .before .before .before .before .before .before .before .before .before .before .before .before .before .before .args .p) u (c .before .before .before .before .before .before .before .before .before .before .before .before .before .before .before .pre .0) in
-    (w .0, refl, w .1, u .range .tested, u .range .invalid, c .before .before .before .before .before .before .before .before .before .before .before .before .before .before .before .pre .1 .more, c .before .before .before .before .before .before .before .before .before .before .before .before .before .before .before .pre .1 .lock)
+put-vector-requires c κs = one-fits (now (c .before .before .before .before .before .before .before .before .before .before .before .before .args .line)) (now (c .before .before .before .before .before .before .before .before .before .before .before .before .args .room)) (ranOf (c .before .before .before .before .before .before .before .before .before .before .before .before .args .p) (c .before .before .before .before .before .before .before .before .before .before .before .before .args .s)) (c .before .before .before .before .before .before .before .before .before .before .before .before .args .b .header) (c .before .before .before .before .before .before .before .before .before .before .before .before .args .b .payload) (c .before .before .before .before .before .before .before .before .before .before .before .before .pre .1) (c .before .before .before .before .before .before .before .before .before .before .before .before .args .class) (c .before .before .before .before .before .before .before .before .before .before .before .before .args .vector) (c .before .before .before .before .before .before .before .before .before .before .before .before .pre .2)
 
 same-length : tie.Need-same-length
 same-length c = search needs
 
 returns : tie.Need-returns
-returns c =
-    let p = c .before .before .before .before .before .before .before .before .before .before .before .before .before .before .before .before .args .p in
-    step-general (now (c .before .before .before .before .before .before .before .before .before .before .before .before .before .before .before .before .args .line)) (now (c .before .before .before .before .before .before .before .before .before .before .before .before .before .before .before .before .args .room)) p (c .before .before .before .before .before .before .before .before .before .before .before .before .before .before .before .before .args .b .header) (c .before .before .before .before .before .before .before .before .before .before .before .before .before .before .before .before .args .b .payload) (c .before .before .before .before .before .before .before .before .before .before .before .before .before .before .before .before .pre .1) (c .before .before .before .before .before .before .before .before .before .before .before .before .before .before .before .before .args .class) (c .before .before .before .before .before .before .before .before .before .before .before .before .before .before .before .before .args .vector) (c .before .before .before .before .before .before .before .before .before .before .before .before .before .before .before .before .pre .2)
-    (c .before .before .before .before .before .before .before .before .before .before .before .before .before .before .before .before .args .history) (c .before .before .before .before .before .before .before .before .before .before .before .before .before .before .before .before .pre .4) (c .before .before .before .put-vector .last .0) (c .before .before .before .before .before .before .before .before .diagram-step .result) (c .before .before .before .before .before .before .before .hand-out .result .vector) (c .before .before .before .before .before .before .before .hand-out .result .handed) (c .advanced .result)
-    (c .before .before .before .before .before .before .before .before .diagram-step .ensures ∙ ap (λ (k : Kind). diagramOf (p .receiver .state) k (c .before .before .before .before .before .before .before .before .before .before .before .before .before .before .before .before .args .ends)) (c .before .before .before .before .before .before .before .before .before .kind-in .ensures)
-    ∙ ap (diagramOf (p .receiver .state) (kindIn (p .receiver .held .class))) (c .before .before .before .before .before .before .before .before .before .before .before .before .before .before .before .before .pre .3))
-    (c .before .before .before .before .before .before .before .hand-out .ensures .0) (c .before .before .before .before .before .before .before .hand-out .ensures .1) (c .before .before .before .put-vector .ensures) (c .advanced .ensures)
+returns c = (
+  run-general (now (c .before .before .before .before .before .before .before .before .before .before .before .before .before .before .before .args .line)) (now (c .before .before .before .before .before .before .before .before .before .before .before .before .before .before .before .args .room)) (c .before .before .before .before .before .before .before .before .before .before .before .before .before .before .before .args .p) (c .before .before .before .before .before .before .before .before .before .before .before .before .before .before .before .args .s) (c .before .before .before .before .before .before .before .before .before .before .before .before .before .before .before .args .b .header) (c .before .before .before .before .before .before .before .before .before .before .before .before .before .before .before .args .b .payload) (c .before .before .before .before .before .before .before .before .before .before .before .before .before .before .before .pre .1) (c .before .before .before .before .before .before .before .before .before .before .before .before .before .before .before .args .class) (c .before .before .before .before .before .before .before .before .before .before .before .before .before .before .before .args .vector) (c .before .before .before .before .before .before .before .before .before .before .before .before .before .before .before .pre .2) (c .before .before .before .before .before .before .before .before .before .before .before .before .before .before .before .args .history) (c .before .before .before .before .before .before .before .before .before .before .before .before .before .before .before .pre .4) (c .before .before .put-vector .last .0) (c .before .before .before .before .before .before .before .diagram-step .result) (c .before .before .before .before .before .before .hand-out .result .vector) (c .before .before .before .before .before .before .hand-out .result .handed)
+      (c .before .before .before .before .before .before .before .diagram-step .ensures ∙ ap (λ (k : Kind). diagramOf (c .before .before .before .before .before .before .before .before .before .before .before .before .before .before .before .args .s .state) k (c .before .before .before .before .before .before .before .before .before .before .before .before .before .before .before .args .ends)) (c .before .before .before .before .before .before .before .before .kind-in .ensures) ∙ ap (diagramOf (c .before .before .before .before .before .before .before .before .before .before .before .before .before .before .before .args .s .state) (kindIn (c .before .before .before .before .before .before .before .before .before .before .before .before .before .before .before .args .s .class))) (c .before .before .before .before .before .before .before .before .before .before .before .before .before .before .before .pre .3))
+      (c .before .before .before .before .before .before .hand-out .ensures .0) (c .before .before .before .before .before .before .hand-out .ensures .1) (c .before .before .put-vector .ensures),
+  refl,
+)
 
 pub general-step-spec : {M : Type 1} → statement M
 general-step-spec =
     tie.close
     (tie.spec
     add-end
+    add-count
     kind-in-requires
     diagram-step-requires
     hand-out-requires
     put-vector-requires
-    advanced-requires
     same-length
     returns)

@@ -17,7 +17,7 @@ enum-told c = search needs
 
 returns : tie.Need-returns
 unfolding GoesTo
-returns c = λ e. goes-on Control (λ q. omega arith) (c .before .before .before .args .p .receiver .state) (kindIn (c .before .before .before .args .p .receiver .held .class)) (sym (c .before .before .state-next .ensures) ∙ c .enum-told .given .1)
+returns c = λ e. goes-on Control (λ q. omega arith) (c .before .before .before .args .s .state) (kindIn (c .before .before .before .args .s .class)) (sym (c .before .before .state-next .ensures) ∙ c .enum-told .given .1)
 
 returns-2 : tie.Need-returns-2
 returns-2 c = λ e. never e

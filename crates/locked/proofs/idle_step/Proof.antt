@@ -16,9 +16,8 @@ idle-requires : tie.Need-idle-requires
 idle-requires c κs = search needs
 
 steady-step-requires : tie.Need-steady-step-requires
-steady-step-requires c κs =
-    let ed = c .before .before .before .before .before .before .before .args .p .receiver .link .edition in
-    (c .before .before .before .before .before .before .before .pre .0, c .before .before .before .before .before .before .before .pre .1, record { class = idle-answer ed _ (c .before .before .before .before .before .before .before .pre .3) .0; vector = c .idle .ensures ed ∙ ap (decoded ed 1) (sym (c .before .before .before .before .before .before .before .pre .3)); good = refl }, c .before .before .before .before .before .before .before .pre .2, refl, refl, c .before .before .descramble .ensures .1)
+steady-step-requires c κs = let ed = c .before .before .before .before .before .args .p .receiver .link .edition in
+    (c .before .before .before .before .before .pre .0, c .before .before .before .before .before .pre .1, record { class = idle-answer ed _ (c .before .before .before .before .before .pre .3) .0; vector = c .idle .ensures ed ∙ ap (decoded ed 1) (sym (c .before .before .before .before .before .pre .3)); good = refl }, c .before .before .before .before .before .pre .2, refl, refl, c .before .before .descramble .ensures .1)
 
 same-length : tie.Need-same-length
 same-length c = search needs
@@ -28,6 +27,7 @@ unfolding GoesTo
 returns c = (
   c .before .before .steady-step .ensures .0,
   λ e. ap₂ (λ (s : State) (k : Class). diagramOf s (kindIn k) e) (c .before .before .steady-step .ensures .1) (c .before .before .steady-step .ensures .2) ∙ control-control e,
+  c .before .before .steady-step .ensures .3,
 )
 
 pub idle-step-spec : {M : Type 1} → statement M

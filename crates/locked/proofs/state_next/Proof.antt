@@ -13,7 +13,7 @@ diagram-step-requires : tie.Need-diagram-step-requires
 diagram-step-requires c κs = search needs
 
 returns : tie.Need-returns
-returns c = c .diagram-step .ensures ∙ ap (λ (k : Kind). diagramOf (c .before .before .before .before .args .p .receiver .state) k false) (c .before .kind-in .ensures)
+returns c = c .diagram-step .ensures ∙ ap (λ (k : Kind). diagramOf (c .before .before .args .s .state) k false) (c .before .kind-in .ensures)
 
 pub state-next-spec : {M : Type 1} → statement M
 state-next-spec = tie.close (tie.spec kind-in-requires diagram-step-requires returns)

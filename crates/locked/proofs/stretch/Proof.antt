@@ -1,6 +1,6 @@
 use denote.Ref.{now}
-use borrow.Author.Needs.{needs}
 use Rattle.receiving.proofs.Stretching.{stretch-first}
+use borrow.Author.Needs.{needs}
 use Rattle.locked.proofs.stretch.Statement.{statement}
 use Rattle.locked.proofs.stretch.Tie as tie
 
@@ -11,10 +11,10 @@ blocks-in-lock-requires : tie.Need-blocks-in-lock-requires
 blocks-in-lock-requires c κs = (c .before .before .before .before .before .pre .0, c .before .before .before .before .before .pre .1, c .before .before .in-lock .ensures (c .before .if1 .taken), c .before .before .before .before .before .pre .2)
 
 same-length : tie.Need-same-length
-same-length c = c .before .before .blocks-in-lock .ensures .len
+same-length c = search needs
 
 returns : tie.Need-returns
-returns c = c .before .before .blocks-in-lock .ensures
+returns c = search needs
 
 returns-2 : tie.Need-returns-2
 returns-2 c = stretch-first (now (c .before .before .before .before .args .line)) (now (c .before .before .before .before .args .room)) (c .before .before .before .before .args .p) (c .before .before .before .before .pre .1) (c .before .before .before .before .pre .2)
