@@ -6,8 +6,18 @@ use crate::ways::WAYS;
 use compare::library;
 use compare::reference::edition::Edition;
 
-/// Numbers of blocks: multiples of four, for those are sent.
-pub const BLOCKS: [usize; 5] = [12, 100, 1_000, 10_000, 100_000];
+/// Numbers of blocks.
+pub const BLOCKS: [usize; 5] = [10, 100, 1_000, 10_000, 100_000];
+
+/// Vectors are sent in groups of four: the least number of them that is no less than this.
+fn whole_groups(blocks: usize) -> usize {
+    blocks.next_multiple_of(4)
+}
+
+/// A line of so many blocks has so many bytes.
+fn line_bytes(blocks: usize) -> usize {
+    (66 * blocks).div_ceil(8)
+}
 
 /// What is timed, in both directions, for each number of blocks.
 pub struct Growth {
@@ -19,6 +29,7 @@ pub struct Growth {
 pub struct Curve {
     pub direction: &'static str,
     pub way: &'static str,
+    pub blocks: [usize; BLOCKS.len()],
     pub ns: [f64; BLOCKS.len()],
 }
 
@@ -27,8 +38,8 @@ impl Growth {
         let vectors = traffic::long_frames();
         let line = library::sent(Edition::Old, &vectors, 0).0;
         Growth {
-            sent: BLOCKS.map(|blocks| timing::sending(Edition::Old, vectors[..10 * blocks].to_vec())),
-            received: BLOCKS.map(|blocks| timing::receiving(Edition::Old, line[..33 * blocks / 4].to_vec())),
+            sent: BLOCKS.map(|blocks| timing::sending(Edition::Old, vectors[..10 * whole_groups(blocks)].to_vec())),
+            received: BLOCKS.map(|blocks| timing::receiving(Edition::Old, line[..line_bytes(blocks)].to_vec())),
         }
     }
 
@@ -38,15 +49,15 @@ impl Growth {
 
     /// Three curves for sending, three for receiving.
     pub fn curves(&self) -> Vec<Curve> {
-        let both = [("send", &self.sent), ("receive", &self.received)];
+        let both = [("send", BLOCKS.map(whole_groups), &self.sent), ("receive", BLOCKS, &self.received)];
         both.into_iter()
-            .flat_map(|(direction, timed)| (0..WAYS.len()).map(move |i| curve(direction, timed, i)))
+            .flat_map(|(direction, blocks, timed)| (0..WAYS.len()).map(move |i| curve(direction, blocks, timed, i)))
             .collect()
     }
 }
 
-fn curve(direction: &'static str, timed: &[Timed; BLOCKS.len()], way: usize) -> Curve {
-    Curve { direction, way: WAYS[way].name, ns: timed.each_ref().map(|timed| timed.best[way]) }
+fn curve(direction: &'static str, blocks: [usize; BLOCKS.len()], timed: &[Timed; BLOCKS.len()], way: usize) -> Curve {
+    Curve { direction, way: WAYS[way].name, blocks, ns: timed.each_ref().map(|timed| timed.best[way]) }
 }
 
 /// A number with a comma before the last three digits.
@@ -63,7 +74,10 @@ pub fn print(curves: &[Curve], report: &mut Report) {
     let names: Vec<&str> = ["", ""].into_iter().chain(blocks.iter().map(|blocks| blocks.as_str())).collect();
     report.head("Calls of other lengths, 1,500-octet frames, ns a block", &names);
     for curve in curves {
-        let cells = curve.ns.iter().map(|ns| format!("{ns:.2}"));
+        let cells = (0..BLOCKS.len()).map(|i| match (curve.ns[i], curve.blocks[i]) {
+            (ns, blocks) if blocks == BLOCKS[i] => format!("{ns:.2}"),
+            (ns, blocks) => format!("{ns:.2} ({blocks} blocks)"),
+        });
         let cells: Vec<String> = [curve.direction, curve.way].map(str::to_string).into_iter().chain(cells).collect();
         report.row(&cells);
     }

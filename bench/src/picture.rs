@@ -62,7 +62,7 @@ fn axes(svg: &mut String, axis: &Axis, left: f64) {
         line(svg, if ns == 0.0 { "axis" } else { "grid" }, [left, y, left + PANEL, y]);
         text(svg, "", "end", [left - 6.0, y + 4.0], &format!("{ns}"));
     }
-    for blocks in [10, 100, 1_000, 10_000, 100_000] {
+    for blocks in BLOCKS {
         let x = x(left, blocks as f64);
         line(svg, "axis", [x, BOTTOM, x, BOTTOM + 5.0]);
         text(svg, "", "middle", [x, BOTTOM + 19.0], &grouped(blocks));
@@ -79,7 +79,7 @@ fn class(curve: &Curve) -> &str {
 }
 
 fn draw(svg: &mut String, axis: &Axis, left: f64, curve: &Curve) {
-    let places = BLOCKS.iter().zip(curve.ns).map(|(blocks, ns)| [x(left, *blocks as f64), axis.y(ns)]);
+    let places = curve.blocks.into_iter().zip(curve.ns).map(|(blocks, ns)| [x(left, blocks as f64), axis.y(ns)]);
     let points: Vec<String> = places.clone().map(|[x, y]| format!("{x:.1},{y:.1}")).collect();
     let class = class(curve);
     _ = writeln!(svg, r#"<polyline class="{class}" points="{}"/>"#, points.join(" "));

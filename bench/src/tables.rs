@@ -90,7 +90,9 @@ pub fn calls() -> Table {
     let edition = Edition::Old;
     let vectors = lists::idle().repeat(1_000);
     let line = library::sent(edition, &vectors, 0).0;
-    let four = |ns: &[f64]| ns.iter().map(|ns| format!("{:.0}", 4.0 * ns)).collect();
+    let of = |blocks: f64| move |ns: &[f64]| ns.iter().map(|ns| format!("{:.0}", blocks * ns)).collect();
+    let send = |n: usize| timing::sending(edition, vectors[..10 * n].to_vec());
+    let receive = |bytes: usize| timing::receiving(edition, line[..bytes].to_vec());
     let burst = |name: &str, bytes: usize| {
         let blocks_a_call = bytes as f64 * timing::tested(edition, &line) as f64 / line.len() as f64;
         Row::new(&[name], timing::bursts(edition, line.clone(), bytes), move |ns| {
@@ -98,8 +100,10 @@ pub fn calls() -> Table {
         })
     };
     let rows = vec![
-        Row::new(&["send of 4 vectors"], timing::sending(edition, vectors[..40].to_vec()), four),
-        Row::new(&["receive of 33 bytes, 4 blocks"], timing::receiving(edition, line[..33].to_vec()), four),
+        Row::new(&["send of no vector"], send(0), of(1.0)),
+        Row::new(&["send of 4 vectors"], send(4), of(4.0)),
+        Row::new(&["receive of 8 bytes, no block"], receive(8), of(1.0)),
+        Row::new(&["receive of 33 bytes, 4 blocks"], receive(33), of(4.0)),
         burst("burst of 256 bytes, 31 blocks", 256),
         burst("burst of 1 byte", 1),
     ];

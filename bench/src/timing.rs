@@ -47,8 +47,10 @@ impl Lent {
     }
 }
 
-/// Nanoseconds a block of the best call of each way, called in turn, each on buffers of its own, after a look that they agree.
+/// Nanoseconds a block of the best call of each way, called in turn, each on buffers of its own, after a look that they agree. A call over no
+/// block counts as one over one.
 fn best<const N: usize>(blocks: usize, room: usize, call: impl Fn(usize, &mut Lent) -> u64) -> [f64; N] {
+    let blocks = blocks.max(1);
     let mut lents = [(); N].map(|_| Lent::new(room));
     let results: Vec<u64> = lents.iter_mut().enumerate().map(|(way, lent)| call(way, lent)).collect();
     assert!(results.iter().all(|result| *result == 0) && lents.iter().all(|lent| *lent == lents[0]), "they differ");

@@ -219,9 +219,9 @@ fn steady_step(
     history: u64,
     state: State,
     class: Class,
-    vector: Vector,
+    held: Vector,
 ) -> Run
-    requires { ⌜ (length (now line) ≤ 825000) × Comes (now line) (now room) (ranOf p s) (b .header) (b .payload) × Is (ranOf p s) (b .header) (b .payload) class vector × GoesTo state (s .state) (s .class) × (decodes state ≡ true) × (errs state ≡ false) × (history ≡ lineAfter (b .payload) (s .history)) ⌝ }
+    requires { ⌜ (length (now line) ≤ 825000) × Comes (now line) (now room) (ranOf p s) (b .header) (b .payload) × Is (ranOf p s) (b .header) (b .payload) class held × GoesTo state (s .state) (s .class) × (decodes state ≡ true) × (errs state ≡ false) × (history ≡ lineAfter (b .payload) (s .history)) ⌝ }
     ensures { λ r. ⌜ Steps (now (line .entry)) (now (room .entry)) (now (room .exit)) (b .payload) (ranOf p s) (ranOf p r) × (r .state ≡ state) × (r .class ≡ class) × (r .count ≡ s .count + 1) ⌝ }
 {
     let end = s.at + 10;
@@ -237,7 +237,7 @@ fn steady_step(
         history: history,
         state: state,
         class: class,
-        vector: vector,
+        vector: held,
         handed: handed,
     }
 }
