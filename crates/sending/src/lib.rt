@@ -20,9 +20,6 @@ ghost use mathlib.Core.Bool.{true};
 ghost use mathlib.Core.List.{List, _++_};
 ghost use Prim.Native.Nat.{ℕ, _+_, _*_, _/_, _%_, _^_, _<_, _≤_};
 ghost use lib.ListN.{length, getD, drop};
-ghost use Rattle.block.specs.Block.{carrier};
-ghost use Rattle.encoding.specs.Answer.{codedOf};
-ghost use Rattle.line.specs.Word.{word};
 ghost use Rattle.sending.specs.Send.{replacedIn, vectorsIn, sentLine};
 ghost use Rattle.sending.specs.Answer.{sent, sentFor, Sends};
 ghost use Rattle.sending.specs.Sends.{Low, chosen, octetsAt, Codes, idleCoded, lowPowerCoded, Each, AllAre, controlsAt, Chooses, stepOf, Scrambles, Goes, groupOf, Groups, Fills};
@@ -209,7 +206,7 @@ fn choose(e: Coded, s: Sender) -> Choice
     }
 }
 
-// It went out, scrambled after this history.
+// What was chosen as it is sent, scrambled after this history.
 fn step_of(chosen: Choice, history: u64, out: Scrambled) -> Step
     ensures { λ r. ⌜ r ≡ stepOf chosen history out ⌝ }
 {
@@ -241,7 +238,7 @@ fn send_one(e: Coded, s: Sender) -> Step
     step_of(chosen, s.history, out)
 }
 
-// One vector sent after another: its scrambled payload is sooner known from what that one was before scrambling, too.
+// The same of a vector after another one. What that one's payload was before scrambling is known too, so the scrambler takes its shorter way.
 fn send_after(e: Coded, before: Step) -> Step
     requires { ⌜ Scrambles before × (before .next .replaced < 2 ^ 63) ⌝ }
     ensures { λ r. ⌜ Goes e (before .next) r ⌝ }
@@ -272,7 +269,7 @@ fn group_of(first: Step, second: Step, third: Step, fourth: Step) -> Group
     }
 }
 
-// Four vectors sent, from a place of the vector bytes on.
+// Four vectors sent, from a place of the vector bytes on. The scrambler's shorter way makes these no faster.
 fn send_each(edition: Edition, bytes: &[u8], at: usize, s: Sender) -> Group
     requires { ⌜ (at + 40 ≤ length (now bytes)) × (s .history < 2 ^ 58) × (s .replaced ≤ 1000000) × (at % 5 ≡ 0) × Low (now bytes) ⌝ }
     ensures { λ r. ⌜ Groups edition s (vectorsIn 4 (drop at (now (bytes .entry)))) r ⌝ }

@@ -40,7 +40,7 @@ send-one-requires-4 : tie.Need-send-one-requires-4
 send-one-requires-4 c κs = (c .before .before .send-one3 .ensures .history, omega (arith, c .before .before .before .before .before .before .before .before .send-one .ensures .few, c .before .before .before .before .before .send-one2 .ensures .few, c .before .before .send-one3 .ensures .few, c .before .before .before .before .before .before .before .before .before .before .before .pre .2))
 
 group-of-requires : tie.Need-group-of-requires
-group-of-requires c κs = search needs
+group-of-requires c κs = tt
 
 returns : tie.Need-returns
 returns c =

@@ -2,7 +2,6 @@
 use mathlib.Core.Path.{subst, sym}
 use Rattle.sending.specs.Sends.{Goes}
 use Rattle.sending.proofs.Steps.{goes}
-use borrow.Author.Needs.{needs}
 use Rattle.sending.proofs.send_one.Statement.{statement}
 use Rattle.sending.proofs.send_one.Tie as tie
 
@@ -13,7 +12,7 @@ scramble-requires : tie.Need-scramble-requires
 scramble-requires c κs = c .before .before .pre .0
 
 step-of-requires : tie.Need-step-of-requires
-step-of-requires c κs = search needs
+step-of-requires c κs = tt
 
 returns : tie.Need-returns
 returns c = subst (Goes (c .before .before .before .before .args .e) (c .before .before .before .before .args .s)) (sym (c .step-of .ensures)) (goes (c .before .before .before .before .args .e) (c .before .before .before .before .args .s) (c .before .before .before .choose .result) (c .before .scramble .result) (c .before .before .before .before .pre .0) (c .before .before .before .choose .ensures) (c .before .scramble .ensures .0) (c .before .scramble .ensures .1))
