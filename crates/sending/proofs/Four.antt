@@ -16,7 +16,8 @@ use Rattle.encoding.proofs.Answers.{data-coded, idle-coded, low-coded}
 use Rattle.sending.specs.Send.{vectorsIn}
 use Rattle.sending.specs.declared.Sender.{Sender}
 use Rattle.sending.specs.declared.Step.{Step}
-use Rattle.sending.specs.Sends.{octetsAt, Codes, idleCoded, lowPowerCoded, Each, AllAre, controlsAt, Low, Sends, Steps, wordsOf, Groups}
+use Rattle.sending.specs.declared.Group.{Group}
+use Rattle.sending.specs.Sends.{octetsAt, Codes, idleCoded, lowPowerCoded, Each, AllAre, controlsAt, Low, Sends, Steps, groupOf, wordsOf, Groups}
 use Rattle.sending.proofs.Laws.{vector-read, sends-join}
 
 -- the four vectors from a place on
@@ -31,17 +32,18 @@ four-vectors bytes at =
 
 module _ (ed : Edition) where
   -- four steps, each from where the one before ended
-  pub four : (bytes : List ℕ) (at : ℕ) (s : Sender) (a b c d : Step)
+  pub four : (bytes : List ℕ) (at : ℕ) (s : Sender) (a b c d : Step) (g : Group) → g ≡ groupOf a b c d
       → Steps ed s (take 10 (drop at bytes)) a → Steps ed (a .next) (take 10 (drop (at + 10) bytes)) b
       → Steps ed (b .next) (take 10 (drop (at + 20) bytes)) c → Steps ed (c .next) (take 10 (drop (at + 30) bytes)) d
-      → Groups ed s (vectorsIn 4 (drop at bytes)) (record { a = a .block; b = b .block; c = c .block; d = d .block; next = d .next })
-  four bytes at s a b c d p q r t =
-      record {
+      → Groups ed s (vectorsIn 4 (drop at bytes)) g
+  four bytes at s a b c d g e p q r t =
+      subst (Groups ed s (vectorsIn 4 (drop at bytes))) (sym e)
+      (record {
         sends =
             subst (λ (vs : List (List ℕ)). Sends ed s vs (wordsOf (a .block) (b .block) (c .block) (d .block)) (d .next)) (four-vectors bytes at)
             (sends-join ed s (a .next) (d .next) _ _ _ _ (p .sends) (sends-join ed (a .next) (b .next) (d .next) _ _ _ _ (q .sends) (sends-join ed (b .next) (c .next) (d .next) _ _ _ _ (r .sends) (t .sends))));
         headers = record { first = p .header; second = q .header; third = r .header; fourth = t .header };
-      }
+      })
 
 -- ---- the control bytes of four vectors
 

@@ -2,7 +2,9 @@ pub mod Laws
 pub mod Steps
 pub mod Four
 pub mod Whole
+pub mod Over
 pub mod Scan
+pub mod Low
 pub mod Answers
 pub mod Unique
 pub mod Verdicts

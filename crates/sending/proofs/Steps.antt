@@ -1,7 +1,6 @@
 -- One vector sent. Assumes nothing.
-use Prim.Native.Nat.{ℕ, _+_, _<_}
+use Prim.Native.Nat.{ℕ, _+_, _^_, _<_}
 use mathlib.Core.Path.{_≡_, refl, sym, ap, _∙_, subst}
-use mathlib.Core.Bool.{true}
 use mathlib.Core.List.{List, [], _∷_}
 use mathlib.Core.Logic.{⊎-elim}
 use native.Mathlib.Nat.{add-zero}
@@ -10,16 +9,20 @@ use Rattle.block.specs.Block.{Carrier, block, none, carrier, carrierKind, vecto
 use Rattle.block.proofs.Sending.{carrier-header}
 use Rattle.encoding.specs.Answer.{codedOf}
 use Rattle.encoding.specs.declared.Coded.{Coded}
-use Rattle.diagrams.specs.Diagram.{diagramOf, transmitOf}
+use Rattle.diagrams.specs.Diagram.{transmitOf}
 use Rattle.block.specs.declared.Edition.{Edition}
 use Rattle.diagrams.specs.declared.State.{State}
 use Rattle.diagrams.specs.declared.State.the-variants.{Init, Control, Data, Terminate, Error, LowPower}
 use Rattle.scrambler.specs.Scrambler.{scrambled, historyAfter}
+use Rattle.scrambler.specs.declared.Scrambled.{Scrambled}
+use Rattle.scrambler.proofs.Laws.{historyAfter-lt}
 use Rattle.line.specs.Word.{word}
 use Rattle.line.specs.declared.Block.{Block}
 use Rattle.sending.specs.Send.{ownBlock, blockIn, replacedIn, stateAfter, replaced, sentBlocks, lineWords, historyOver}
 use Rattle.sending.specs.declared.Sender.{Sender}
-use Rattle.sending.specs.Sends.{chosen, Steps}
+use Rattle.sending.specs.declared.Choice.{Choice}
+use Rattle.sending.specs.declared.Step.{Step}
+use Rattle.sending.specs.Sends.{chosen, Steps, Chooses, stepOf, Scrambles, Goes}
 
 -- encoding answers the vector's kind, its own block, and a header of two bits
 kind-of : (c : Carrier) → codedOf c .kind ≡ carrierKind c
@@ -53,28 +56,49 @@ module _ (ed : Edition) where
   chosen-own LowPower v b e l = record { own = e; small = l }
   chosen-own Error v b e l = chosen-error v b
 
-  pub step : (s : Sender) (e : Coded) (v : List ℕ) (t : State) (b : Block) (w h n : ℕ) → e ≡ codedOf (carrier ed v)
-      → t ≡ diagramOf (s .diagram) (e .kind) true → b ≡ chosen t (record { header = e .header; payload = e .payload })
-      → w ≡ scrambled (b .payload) (s .history) → h ≡ historyAfter (b .payload) (s .history) → n ≡ replacedIn t
-      → Steps ed s v (record { block = record { header = b .header; payload = w }; next = record { diagram = t; history = h; replaced = s .replaced + n } })
+  step : (e : Coded) (s : Sender) (c : Choice) (out : Scrambled) (v : List ℕ) → e ≡ codedOf (carrier ed v) → Chooses e s c
+      → out .word ≡ scrambled (c .block .payload) (s .history) → out .history ≡ historyAfter (c .block .payload) (s .history)
+      → Steps ed s v (stepOf c (s .history) out)
   unfolding stateAfter replaced sentBlocks lineWords historyOver vectorKind
-  step s e v t b w h n ev et eb ew eh en =
+  step e s c out v ev ch ew eh =
+      let t = c .diagram in
       let u = s .diagram in
       let own : Block = record { header = e .header; payload = e .payload } in
-      let c : Chosen t v own =
+      let d : Chosen t v own =
       chosen-own t v own (own-of (carrier ed v) ∙ ap (λ (q : Coded). record { header = q .header; payload = q .payload }) (sym ev))
       (subst (λ (q : Coded). q .header < 4) (sym ev) (header-of v (carrier ed v) refl)) in
-      let d : t ≡ transmitOf u (vectorKind ed v) = et ∙ ap (transmitOf u) (ap (λ (q : Coded). q .kind) ev ∙ kind-of (carrier ed v)) in
-      let o : blockIn ed (transmitOf u (vectorKind ed v)) v ≡ b = ap (λ (q : State). blockIn ed q v) (sym d) ∙ c .own ∙ sym eb in
+      let n : t ≡ transmitOf u (vectorKind ed v) = ch .diagram ∙ ap (transmitOf u) (ap (λ (q : Coded). q .kind) ev ∙ kind-of (carrier ed v)) in
+      let o : blockIn ed (transmitOf u (vectorKind ed v)) v ≡ c .block = ap (λ (q : State). blockIn ed q v) (sym n) ∙ d .own ∙ sym (ch .block) in
       record {
         sends =
             record {
-              diagram = d;
+              diagram = n;
               history = eh ∙ ap (λ (q : Block). historyAfter (q .payload) (s .history)) (sym o);
-              count = ap (λ (m : ℕ). s .replaced + m) (en ∙ ap replacedIn d ∙ sym (add-zero _));
+              count = ch .count ∙ ap (λ (m : ℕ). s .replaced + m) (ap replacedIn n ∙ sym (add-zero _));
               line =
-                  ap (λ (p : ℕ). word (record { header = b .header; payload = p }) ∷ []) ew
+                  ap (λ (p : ℕ). word (record { header = c .block .header; payload = p }) ∷ []) ew
                   ∙ ap (λ (q : Block). word (record { header = q .header; payload = scrambled (q .payload) (s .history) }) ∷ []) (sym o);
             };
-        header = subst (λ (q : Block). q .header < 4) (sym eb) (c .small);
+        header = subst (λ (q : Block). q .header < 4) (sym (ch .block)) (d .small);
       }
+
+-- it went out after the history where s stands
+pub goes : (e : Coded) (s : Sender) (c : Choice) (out : Scrambled) → s .history < 2 ^ 58 → Chooses e s c
+    → out .word ≡ scrambled (c .block .payload) (s .history) → out .history ≡ historyAfter (c .block .payload) (s .history)
+    → Goes e s (stepOf c (s .history) out)
+goes e s c out l ch ew eh =
+    record {
+      steps = λ ed v ev. step ed e s c out v ev ch ew eh;
+      scrambles = record { before = l; payload = ew; after = eh };
+      history = subst (λ (h : ℕ). h < 2 ^ 58) (sym eh) (historyAfter-lt (c .block .payload) (s .history) l);
+      few = ch .few;
+    }
+
+-- it went out after another, whose payload and history before it are known
+pub goes-after : (e : Coded) (b : Step) (c : Choice) (out : Scrambled) → Scrambles b → Chooses e (b .next) c
+    → out .word ≡ scrambled (c .block .payload) (historyAfter (b .plain) (b .history))
+    → out .history ≡ historyAfter (c .block .payload) (historyAfter (b .plain) (b .history))
+    → Goes e (b .next) (stepOf c (b .next .history) out)
+goes-after e b c out w ch ew eh =
+    goes e (b .next) c out (subst (λ (h : ℕ). h < 2 ^ 58) (sym (w .after)) (historyAfter-lt (b .plain) (b .history) (w .before))) ch
+    (ew ∙ ap (scrambled (c .block .payload)) (sym (w .after))) (eh ∙ ap (historyAfter (c .block .payload)) (sym (w .after)))

@@ -1,3 +1,4 @@
 pub mod Send
 pub mod Answer
 pub mod Sends
+pub mod Over

@@ -1,9 +1,12 @@
 -- A reviewer can skip this file: what the inner functions of sending promise each other.
-use Prim.Native.Nat.{ℕ, _+_, _*_, _/_, _<_, _≤_}
+use Prim.Native.Nat.{ℕ, _+_, _*_, _/_, _^_, _<_, _≤_}
+use mathlib.Core.Bool.{true}
 use mathlib.Core.Path.{_≡_}
 use mathlib.Core.List.{List, [], _∷_, _++_}
 use lib.ListN.{length, getD, take, drop}
 use Rattle.bits.specs.Bits.{streamBit, cut}
+use Rattle.scrambler.specs.Scrambler.{scrambled, historyAfter}
+use Rattle.scrambler.specs.declared.Scrambled.{Scrambled}
 use Rattle.line.specs.Word.{word}
 use Rattle.line.specs.declared.Block.{Block}
 use Rattle.block.specs.declared.Edition.{Edition}
@@ -12,10 +15,12 @@ use Rattle.block.specs.Block.{carrier}
 use Rattle.encoding.specs.declared.Coded.{Coded}
 use Rattle.encoding.specs.Answer.{codedOf}
 use Rattle.encoding.specs.Parts.{lanesAt}
+use Rattle.diagrams.specs.Diagram.{diagramOf}
 use Rattle.diagrams.specs.declared.State.{State}
 use Rattle.diagrams.specs.declared.State.the-variants.{Init, Control, Data, Terminate, Error, LowPower}
-use Rattle.sending.specs.Send.{vectorsOf, errorBlock, stateAfter, replaced, sentBlocks, lineWords, historyOver}
+use Rattle.sending.specs.Send.{vectorsOf, errorBlock, replacedIn, stateAfter, replaced, sentBlocks, lineWords, historyOver}
 use Rattle.sending.specs.declared.Sender.{Sender}
+use Rattle.sending.specs.declared.Choice.{Choice}
 use Rattle.sending.specs.declared.Step.{Step}
 use Rattle.sending.specs.declared.Group.{Group}
 
@@ -76,6 +81,40 @@ pub record Sends (ed : Edition) (s : Sender) (vectors : List (List ℕ)) (words 
 pub record Steps (ed : Edition) (s : Sender) (vector : List ℕ) (r : Step) : Type 0 where
   pub sends : Sends ed s (vector ∷ []) (word (r .block) ∷ []) (r .next)
   pub header : r .block .header < 4
+
+-- What goes out for a vector that is encoded as e, from where s stands: the diagram's step, and the block of its state.
+pub record Chooses (e : Coded) (s : Sender) (r : Choice) : Type 0 where
+  pub diagram : r .diagram ≡ diagramOf (s .diagram) (e .kind) true
+  pub block : r .block ≡ chosen (r .diagram) (record { header = e .header; payload = e .payload })
+  pub count : r .replaced ≡ s .replaced + replacedIn (r .diagram)
+  pub few : r .replaced ≤ s .replaced + 1
+
+-- it went out, scrambled after history h
+abbrev pub stepOf : Choice → ℕ → Scrambled → Step
+stepOf c h out =
+    record {
+      history = h;
+      plain = c .block .payload;
+      block = record { header = c .block .header; payload = out .word };
+      next = record { diagram = c .diagram; history = out .history; replaced = c .replaced };
+    }
+
+-- Its payload was scrambled after the history before it, and the history goes on.
+pub record Scrambles (r : Step) : Type 0 where
+  pub before : r .history < 2 ^ 58
+  pub payload : r .block .payload ≡ scrambled (r .plain) (r .history)
+  pub after : r .next .history ≡ historyAfter (r .plain) (r .history)
+
+-- One vector that is encoded as e, from where s stands.
+pub record Goes (e : Coded) (s : Sender) (r : Step) : Type 0 where
+  pub steps : (ed : Edition) (v : List ℕ) → e ≡ codedOf (carrier ed v) → Steps ed s v r
+  pub scrambles : Scrambles r
+  pub history : r .next .history < 2 ^ 58
+  pub few : r .next .replaced ≤ s .replaced + 1
+
+-- four steps as a group
+abbrev pub groupOf : (a b c d : Step) → Group
+groupOf a b c d = record { a = a .block; b = b .block; c = c .block; d = d .block; next = d .next }
 
 -- Four blocks that go on the line: their words, and that their headers have two bits.
 abbrev pub wordsOf : (a b c d : Block) → List ℕ

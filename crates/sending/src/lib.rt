@@ -10,20 +10,19 @@ use encoding::lanes_at;
 use line::Block;
 use line::put_group;
 use refusals::Refusal;
+use scrambler::Scrambled;
 use scrambler::mirrored;
 use scrambler::scramble;
+use scrambler::scramble_next;
 use tables::edition_of;
 ghost use mathlib.Core.Path.{_≡_};
 ghost use mathlib.Core.Bool.{true};
 ghost use mathlib.Core.List.{List, _++_};
 ghost use Prim.Native.Nat.{ℕ, _+_, _*_, _/_, _%_, _^_, _<_, _≤_};
 ghost use lib.ListN.{length, getD, drop};
-ghost use Rattle.block.specs.Block.{carrier};
-ghost use Rattle.encoding.specs.Answer.{codedOf};
-ghost use Rattle.line.specs.Word.{word};
 ghost use Rattle.sending.specs.Send.{replacedIn, vectorsIn, sentLine};
 ghost use Rattle.sending.specs.Answer.{sent, sentFor, Sends};
-ghost use Rattle.sending.specs.Sends.{Low, chosen, octetsAt, Codes, idleCoded, lowPowerCoded, Each, AllAre, controlsAt, Steps, Groups, Fills};
+ghost use Rattle.sending.specs.Sends.{Low, chosen, octetsAt, Codes, idleCoded, lowPowerCoded, Each, AllAre, controlsAt, Chooses, stepOf, Scrambles, Goes, groupOf, Groups, Fills};
 
 mod controls;
 
@@ -48,8 +47,17 @@ struct Sender {
     replaced: u64,
 }
 
-// One vector sent: its block as it goes on the line, and where sending then stands.
+// What goes out for one vector: its block before scrambling, the state of the diagram, and how many vectors are then replaced.
+struct Choice {
+    block: Block,
+    diagram: State,
+    replaced: u64,
+}
+
+// One vector sent: the history before it, its payload before scrambling, its block as it goes on the line, and where sending then stands.
 struct Step {
+    history: u64,
+    plain: u64,
     block: Block,
     next: Sender,
 }
@@ -177,11 +185,10 @@ fn replaced_in(s: State) -> u64
     }
 }
 
-// One vector sent: the diagram's step, the block of its state, and the scrambler over its payload.
-fn send_one(e: Coded, s: Sender) -> Step
-    requires { ⌜ (s .history < 2 ^ 58) × (s .replaced < 2 ^ 63) ⌝ }
-    ensures { λ r. ⌜ ((ed : Edition) (v : List ℕ) → e ≡ codedOf (carrier ed v) → Steps ed s v r) ⌝ }
-    ensures { λ r. ⌜ (r .next .history < 2 ^ 58) × (r .next .replaced ≤ s .replaced + 1) ⌝ }
+// What goes out for a vector: the diagram's step, and the block of its state.
+fn choose(e: Coded, s: Sender) -> Choice
+    requires { ⌜ s .replaced < 2 ^ 63 ⌝ }
+    ensures { λ r. ⌜ Chooses e s r ⌝ }
 {
     let before = s.diagram;
     let kind = e.kind;
@@ -191,9 +198,23 @@ fn send_one(e: Coded, s: Sender) -> Step
         payload: e.payload,
     };
     let block = block_in(diagram, own);
-    let out = scramble(block.payload, s.history);
     let replaced = s.replaced + replaced_in(diagram);
+    Choice {
+        block: block,
+        diagram: diagram,
+        replaced: replaced,
+    }
+}
+
+// What was chosen as it is sent, scrambled after this history.
+fn step_of(chosen: Choice, history: u64, out: Scrambled) -> Step
+    ensures { λ r. ⌜ r ≡ stepOf chosen history out ⌝ }
+{
+    let block = chosen.block;
+    let diagram = chosen.diagram;
     Step {
+        history: history,
+        plain: block.payload,
         block: Block {
             header: block.header,
             payload: out.word,
@@ -201,35 +222,66 @@ fn send_one(e: Coded, s: Sender) -> Step
         next: Sender {
             diagram: diagram,
             history: out.history,
-            replaced: replaced,
+            replaced: chosen.replaced,
         },
     }
 }
 
-// Four vectors sent, from a place of the vector bytes on.
-fn send_each(edition: Edition, bytes: &[u8], at: usize, s: Sender) -> Group
-    requires { ⌜ (at + 40 ≤ length (now bytes)) × (s .history < 2 ^ 58) × (s .replaced ≤ 1000000) × (at % 5 ≡ 0) × Low (now bytes) ⌝ }
-    ensures { λ r. ⌜ Groups edition s (vectorsIn 4 (drop at (now (bytes .entry)))) r ⌝ }
+// One vector sent.
+fn send_one(e: Coded, s: Sender) -> Step
+    requires { ⌜ (s .history < 2 ^ 58) × (s .replaced < 2 ^ 63) ⌝ }
+    ensures { λ r. ⌜ Goes e s r ⌝ }
 {
-    let first = send_one(vector_at(edition, bytes, at), s);
+    let chosen = choose(e, s);
+    let block = chosen.block;
+    let out = scramble(block.payload, s.history);
+    step_of(chosen, s.history, out)
+}
+
+// The same of a vector after another one. What that one's payload was before scrambling is known too, so the scrambler takes its shorter way.
+fn send_after(e: Coded, before: Step) -> Step
+    requires { ⌜ Scrambles before × (before .next .replaced < 2 ^ 63) ⌝ }
+    ensures { λ r. ⌜ Goes e (before .next) r ⌝ }
+{
+    let s = before.next;
+    let last = before.block;
+    let chosen = choose(e, s);
+    let block = chosen.block;
+    let out = scramble_next(block.payload, before.plain, last.payload, before.history);
+    step_of(chosen, s.history, out)
+}
+
+// Four vectors sent one after the other, as a group.
+fn group_of(first: Step, second: Step, third: Step, fourth: Step) -> Group
+    ensures { λ r. ⌜ r ≡ groupOf first second third fourth ⌝ }
+{
     let a = first.block;
-    let after_a = first.next;
-    let second = send_one(vector_at(edition, bytes, at + 10), after_a);
     let b = second.block;
-    let after_b = second.next;
-    let third = send_one(vector_at(edition, bytes, at + 20), after_b);
     let c = third.block;
-    let after_c = third.next;
-    let fourth = send_one(vector_at(edition, bytes, at + 30), after_c);
     let d = fourth.block;
-    let after_d = fourth.next;
+    let next = fourth.next;
     Group {
         a: a,
         b: b,
         c: c,
         d: d,
-        next: after_d,
+        next: next,
     }
+}
+
+// Four vectors sent, from a place of the vector bytes on. The scrambler's shorter way makes these no faster.
+fn send_each(edition: Edition, bytes: &[u8], at: usize, s: Sender) -> Group
+    requires { ⌜ (at + 40 ≤ length (now bytes)) × (s .history < 2 ^ 58) × (s .replaced ≤ 1000000) × (at % 5 ≡ 0) × Low (now bytes) ⌝ }
+    ensures { λ r. ⌜ Groups edition s (vectorsIn 4 (drop at (now (bytes .entry)))) r ⌝ }
+{
+    let first = send_one(vector_at(edition, bytes, at), s);
+    let after_a = first.next;
+    let second = send_one(vector_at(edition, bytes, at + 10), after_a);
+    let after_b = second.next;
+    let third = send_one(vector_at(edition, bytes, at + 20), after_b);
+    let after_c = third.next;
+    let fourth = send_one(vector_at(edition, bytes, at + 30), after_c);
+    group_of(first, second, third, fourth)
 }
 
 // The same of four without control characters. What the diagram does is then known but for the first, so this is short.
@@ -238,24 +290,10 @@ fn send_data(bytes: &[u8], at: usize, s: Sender) -> Group
     ensures { λ r. ⌜ ((ed : Edition) → Groups ed s (vectorsIn 4 (drop at (now (bytes .entry)))) r) ⌝ }
 {
     let first = send_one(data_at(bytes, at), s);
-    let a = first.block;
-    let after_a = first.next;
-    let second = send_one(data_at(bytes, at + 10), after_a);
-    let b = second.block;
-    let after_b = second.next;
-    let third = send_one(data_at(bytes, at + 20), after_b);
-    let c = third.block;
-    let after_c = third.next;
-    let fourth = send_one(data_at(bytes, at + 30), after_c);
-    let d = fourth.block;
-    let after_d = fourth.next;
-    Group {
-        a: a,
-        b: b,
-        c: c,
-        d: d,
-        next: after_d,
-    }
+    let second = send_after(data_at(bytes, at + 10), first);
+    let third = send_after(data_at(bytes, at + 20), second);
+    let fourth = send_after(data_at(bytes, at + 30), third);
+    group_of(first, second, third, fourth)
 }
 
 // The same of four that are idles.
@@ -264,24 +302,10 @@ fn send_idles(s: Sender) -> Group
     ensures { λ r. ⌜ ((ed : Edition) (bytes : List ℕ) (at : ℕ) → Each ed bytes at idleCoded → Groups ed s (vectorsIn 4 (drop at bytes)) r) ⌝ }
 {
     let first = send_one(idles(), s);
-    let a = first.block;
-    let after_a = first.next;
-    let second = send_one(idles(), after_a);
-    let b = second.block;
-    let after_b = second.next;
-    let third = send_one(idles(), after_b);
-    let c = third.block;
-    let after_c = third.next;
-    let fourth = send_one(idles(), after_c);
-    let d = fourth.block;
-    let after_d = fourth.next;
-    Group {
-        a: a,
-        b: b,
-        c: c,
-        d: d,
-        next: after_d,
-    }
+    let second = send_after(idles(), first);
+    let third = send_after(idles(), second);
+    let fourth = send_after(idles(), third);
+    group_of(first, second, third, fourth)
 }
 
 // The same of four that are low power idles.
@@ -290,24 +314,10 @@ fn send_low_power(s: Sender) -> Group
     ensures { λ r. ⌜ ((ed : Edition) (bytes : List ℕ) (at : ℕ) → Each ed bytes at lowPowerCoded → Groups ed s (vectorsIn 4 (drop at bytes)) r) ⌝ }
 {
     let first = send_one(low_power(), s);
-    let a = first.block;
-    let after_a = first.next;
-    let second = send_one(low_power(), after_a);
-    let b = second.block;
-    let after_b = second.next;
-    let third = send_one(low_power(), after_b);
-    let c = third.block;
-    let after_c = third.next;
-    let fourth = send_one(low_power(), after_c);
-    let d = fourth.block;
-    let after_d = fourth.next;
-    Group {
-        a: a,
-        b: b,
-        c: c,
-        d: d,
-        next: after_d,
-    }
+    let second = send_after(low_power(), first);
+    let third = send_after(low_power(), second);
+    let fourth = send_after(low_power(), third);
+    group_of(first, second, third, fourth)
 }
 
 // Whether the octets of four vectors are all these.

@@ -1,9 +1,9 @@
 -- `sending::send` meets its contract: each refusal by the tests that led to it. Assumes nothing.
-use mathlib.Core.Path.{_≡_, sym, ap, _∙_}
+use mathlib.Core.Path.{sym}
 use denote.Ref.{now}
 use borrow.Author.Tests.{le-ltb, lt-ltb, le-leb, lt-leb, eq-eqb, ne-eqb}
 use Rattle.refusals.specs.First.{first}
-use Rattle.sending.proofs.Scan.{low}
+use Rattle.sending.proofs.Low.{low}
 use Rattle.sending.specs.Answer.{sendChecks, sendAnswer, sendRoom}
 use borrow.Author.Needs.{needs}
 use Rattle.sending.proofs.send.Statement.{statement}

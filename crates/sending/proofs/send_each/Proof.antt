@@ -16,33 +16,36 @@ add-vector-at : tie.Need-add-vector-at
 add-vector-at c = search needs
 
 vector-at-requires-2 : tie.Need-vector-at-requires-2
-vector-at-requires-2 c κs = let w = low-pairs (now (c .before .before .before .before .before .args .bytes)) (c .before .before .before .before .before .args .at) (c .before .before .before .before .before .pre .4) (c .before .before .before .before .before .pre .3) .second in (omega (arith, c .before .before .before .before .before .pre .0), w .0, w .1)
+vector-at-requires-2 c κs = let w = low-pairs (now (c .before .before .before .before .args .bytes)) (c .before .before .before .before .args .at) (c .before .before .before .before .pre .4) (c .before .before .before .before .pre .3) .second in (omega (arith, c .before .before .before .before .pre .0), w .0, w .1)
 
 send-one-requires-2 : tie.Need-send-one-requires-2
-send-one-requires-2 c κs = let r = c .before .before .before .send-one .ensures .1 in (r .0, omega (arith, r .1, c .before .before .before .before .before .before .pre .2))
+send-one-requires-2 c κs = (c .before .before .send-one .ensures .history, omega (arith, c .before .before .send-one .ensures .few, c .before .before .before .before .before .pre .2))
 
 add-vector-at-2 : tie.Need-add-vector-at-2
 add-vector-at-2 c = search needs
 
 vector-at-requires-3 : tie.Need-vector-at-requires-3
-vector-at-requires-3 c κs = let w = low-pairs (now (c .before .before .before .before .before .before .before .before .before .args .bytes)) (c .before .before .before .before .before .before .before .before .before .args .at) (c .before .before .before .before .before .before .before .before .before .pre .4) (c .before .before .before .before .before .before .before .before .before .pre .3) .third in (omega (arith, c .before .before .before .before .before .before .before .before .before .pre .0), w .0, w .1)
+vector-at-requires-3 c κs = let w = low-pairs (now (c .before .before .before .before .before .before .before .args .bytes)) (c .before .before .before .before .before .before .before .args .at) (c .before .before .before .before .before .before .before .pre .4) (c .before .before .before .before .before .before .before .pre .3) .third in (omega (arith, c .before .before .before .before .before .before .before .pre .0), w .0, w .1)
 
 send-one-requires-3 : tie.Need-send-one-requires-3
-send-one-requires-3 c κs = let r = c .before .before .before .send-one2 .ensures .1 in (r .0, omega (arith, r .1, c .before .before .before .before .before .before .before .send-one .ensures .1 .1, c .before .before .before .before .before .before .before .before .before .before .pre .2))
+send-one-requires-3 c κs = (c .before .before .send-one2 .ensures .history, omega (arith, c .before .before .before .before .before .send-one .ensures .few, c .before .before .send-one2 .ensures .few, c .before .before .before .before .before .before .before .before .pre .2))
 
 add-vector-at-3 : tie.Need-add-vector-at-3
-add-vector-at-3 c = record { fits = omega (arith, c .before .before .before .before .before .before .before .before .before .before .before .before .before .pre .0, c .before .before .before .before .before .before .before .before .before .before .before .before .before .good, c .before .before .before .before .before .before .before .before .before .before .before .before .before .fits) }
+add-vector-at-3 c = record { fits = omega (arith, c .before .before .before .before .before .before .before .before .before .before .pre .0, c .before .before .before .before .before .before .before .before .before .before .good, c .before .before .before .before .before .before .before .before .before .before .fits) }
 
 vector-at-requires-4 : tie.Need-vector-at-requires-4
-vector-at-requires-4 c κs = let w = low-pairs (now (c .before .before .before .before .before .before .before .before .before .before .before .before .before .args .bytes)) (c .before .before .before .before .before .before .before .before .before .before .before .before .before .args .at) (c .before .before .before .before .before .before .before .before .before .before .before .before .before .pre .4) (c .before .before .before .before .before .before .before .before .before .before .before .before .before .pre .3) .fourth in (omega (arith, c .before .before .before .before .before .before .before .before .before .before .before .before .before .pre .0), w .0, w .1)
+vector-at-requires-4 c κs = let w = low-pairs (now (c .before .before .before .before .before .before .before .before .before .before .args .bytes)) (c .before .before .before .before .before .before .before .before .before .before .args .at) (c .before .before .before .before .before .before .before .before .before .before .pre .4) (c .before .before .before .before .before .before .before .before .before .before .pre .3) .fourth in (omega (arith, c .before .before .before .before .before .before .before .before .before .before .pre .0), w .0, w .1)
 
 send-one-requires-4 : tie.Need-send-one-requires-4
-send-one-requires-4 c κs = let r = c .before .before .before .send-one3 .ensures .1 in (r .0, omega (arith, r .1, c .before .before .before .before .before .before .before .before .before .before .before .send-one .ensures .1 .1, c .before .before .before .before .before .before .before .send-one2 .ensures .1 .1, c .before .before .before .before .before .before .before .before .before .before .before .before .before .before .pre .2))
+send-one-requires-4 c κs = (c .before .before .send-one3 .ensures .history, omega (arith, c .before .before .before .before .before .before .before .before .send-one .ensures .few, c .before .before .before .before .before .send-one2 .ensures .few, c .before .before .send-one3 .ensures .few, c .before .before .before .before .before .before .before .before .before .before .before .pre .2))
+
+group-of-requires : tie.Need-group-of-requires
+group-of-requires c κs = tt
 
 returns : tie.Need-returns
 returns c =
-    four (c .before .before .before .before .before .before .before .before .before .before .before .before .before .before .before .before .before .args .edition) (now (c .before .before .before .before .before .before .before .before .before .before .before .before .before .before .before .before .before .args .bytes)) (c .before .before .before .before .before .before .before .before .before .before .before .before .before .before .before .before .before .args .at) (c .before .before .before .before .before .before .before .before .before .before .before .before .before .before .before .before .before .args .s) (c .before .before .before .before .before .before .before .before .before .before .before .before .before .before .send-one .result) (c .before .before .before .before .before .before .before .before .before .before .send-one2 .result) (c .before .before .before .before .before .before .send-one3 .result) (c .before .before .send-one4 .result)
-    (c .before .before .before .before .before .before .before .before .before .before .before .before .before .before .send-one .ensures .0 (c .before .before .before .before .before .before .before .before .before .before .before .before .before .before .before .before .before .args .edition) _ (c .before .before .before .before .before .before .before .before .before .before .before .before .before .before .before .vector-at .ensures)) (c .before .before .before .before .before .before .before .before .before .before .send-one2 .ensures .0 (c .before .before .before .before .before .before .before .before .before .before .before .before .before .before .before .before .before .args .edition) _ (c .before .before .before .before .before .before .before .before .before .before .before .vector-at2 .ensures)) (c .before .before .before .before .before .before .send-one3 .ensures .0 (c .before .before .before .before .before .before .before .before .before .before .before .before .before .before .before .before .before .args .edition) _ (c .before .before .before .before .before .before .before .vector-at3 .ensures)) (c .before .before .send-one4 .ensures .0 (c .before .before .before .before .before .before .before .before .before .before .before .before .before .before .before .before .before .args .edition) _ (c .before .before .before .vector-at4 .ensures))
+    four (c .before .before .before .before .before .before .before .before .before .before .before .before .before .args .edition) (now (c .before .before .before .before .before .before .before .before .before .before .before .before .before .args .bytes)) (c .before .before .before .before .before .before .before .before .before .before .before .before .before .args .at) (c .before .before .before .before .before .before .before .before .before .before .before .before .before .args .s) (c .before .before .before .before .before .before .before .before .before .before .send-one .result) (c .before .before .before .before .before .before .before .send-one2 .result) (c .before .before .before .before .send-one3 .result) (c .before .send-one4 .result) (c .group-of .result) (c .group-of .ensures)
+    (c .before .before .before .before .before .before .before .before .before .before .send-one .ensures .steps (c .before .before .before .before .before .before .before .before .before .before .before .before .before .args .edition) _ (c .before .before .before .before .before .before .before .before .before .before .before .vector-at .ensures)) (c .before .before .before .before .before .before .before .send-one2 .ensures .steps (c .before .before .before .before .before .before .before .before .before .before .before .before .before .args .edition) _ (c .before .before .before .before .before .before .before .before .vector-at2 .ensures)) (c .before .before .before .before .send-one3 .ensures .steps (c .before .before .before .before .before .before .before .before .before .before .before .before .before .args .edition) _ (c .before .before .before .before .before .vector-at3 .ensures)) (c .before .send-one4 .ensures .steps (c .before .before .before .before .before .before .before .before .before .before .before .before .before .args .edition) _ (c .before .before .vector-at4 .ensures))
 
 pub send-each-spec : {M : Type 1} → statement M
 send-each-spec =
@@ -59,4 +62,5 @@ send-each-spec =
     add-vector-at-3
     vector-at-requires-4
     send-one-requires-4
+    group-of-requires
     returns)
