@@ -29,7 +29,6 @@ use Rattle.decoding.specs.declared.Vector.{Vector}
 use Rattle.diagrams.specs.Lock.{lockOf, slipsOf}
 use Rattle.diagrams.specs.Rate.{rateOf}
 use Rattle.diagrams.specs.Diagram.{diagramOf, afterIdle, afterData, afterError, afterLow, stateNumber, follows}
-use Rattle.diagrams.specs.declared.Lock.{Lock}
 use Rattle.diagrams.specs.declared.Rate.{Rate}
 use Rattle.diagrams.specs.declared.State.{State}
 use Rattle.diagrams.specs.declared.State.the-variants.{Init, Control, Data, Terminate, Error, LowPower}
@@ -418,10 +417,6 @@ data-valid = refl
 pub control-valid : validOf 1 ≡ true
 unfolding validOf bit
 control-valid = refl
-
--- what the code asks of a number
-pub under-wide : (line room : List ℕ) (p : Progress) → Under line room p → length line ≤ 825000 → (p .pos ≤ 6600000) × (p .counts .tested ≤ 6600000)
-under-wide line room p u l = (omega (arith, u .pos), omega (arith, u .pos, u .counts .tested))
 
 -- four blocks with one header come, one after the other
 module _ (line r₀ : List ℕ) (p₀ : Progress) (f : Four) (h n : ℕ) (ok : validOf h ≡ true) (digits : (h ≡ n % 4) × (h ≡ n / 4 % 4) × (h ≡ n / 16 % 4) × (h ≡ n / 64 % 4))

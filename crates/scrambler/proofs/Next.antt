@@ -1,5 +1,5 @@
 -- A payload after another, from the polynomial squared: (1 + x^39 + x^58)² = 1 + x^78 + x^116. Assumes nothing.
-use mathlib.Core.Path.{_≡_, sym, ap, ap₂, _∙_, subst}
+use mathlib.Core.Path.{_≡_, sym, ap, ap₂, _∙_}
 use Prim.Native.Nat.{ℕ, _+_, _-_, _*_, _/_, _%_, _^_, _≤_, _<_}
 use native.Mathlib.Nat.{add-comm, mod-lt}
 use native.Mathlib.Omega.{arith}
@@ -10,7 +10,7 @@ use Rattle.bits.proofs.Laws.{bit-lt, by-lt, bit-shr, bit-high, bit-above, bit-b
 use Rattle.register.specs.Register.{sent, history, whole}
 use Rattle.register.proofs.Laws.{sent-lt, sent-same, sent-add, history-same, history-line, sent-squared}
 use Rattle.scrambler.specs.Scrambler.{scrambled, historyAfter}
-use Rattle.scrambler.proofs.Laws.{scrambled-lt, bit-scrambled, historyAfter-lt}
+use Rattle.scrambler.proofs.Laws.{bit-scrambled, historyAfter-lt}
 use Rattle.scrambler.proofs.Words.{or-sum, window, top}
 
 module _ (h : ℕ) (hb : h < 2 ^ 58) (p : ℕ) (pb : p < 2 ^ 64) (q : ℕ) (qb : q < 2 ^ 64) where

@@ -5,7 +5,6 @@ use Prim.Native.Nat.{ℕ, _+_, _*_, _≤_, _<_}
 use lib.ListN.{length}
 use Rattle.blocks.specs.Blocks.{Fours}
 use Rattle.receiving.specs.Loop.{Stretches}
-use Rattle.receiving.specs.declared.Progress.{Progress}
 use Rattle.receiving.proofs.Stretching.{stretch-first, stretch-more}
 use Rattle.locked.specs.InLock.{InLock, ranOf}
 use Rattle.locked.proofs.blocks_in_lock.Statement.{statement}
