@@ -85,6 +85,11 @@ pub fn bursts() -> Table {
     Table { title: "The library in bursts and in one call, ns a block", head, rows }
 }
 
+/// What the library alone does.
+fn told_alone(ns: f64) -> Vec<String> {
+    vec![format!("{ns:.0}"), "-".to_string(), "-".to_string()]
+}
+
 /// What short calls cost, on idles. The bursts are those of a long line.
 pub fn calls() -> Table {
     let edition = Edition::Old;
@@ -95,17 +100,16 @@ pub fn calls() -> Table {
     let receive = |bytes: usize| timing::receiving(edition, line[..bytes].to_vec());
     let burst = |name: &str, bytes: usize| {
         let blocks_a_call = bytes as f64 * timing::tested(edition, &line) as f64 / line.len() as f64;
-        Row::new(&[name], timing::bursts(edition, line.clone(), bytes), move |ns| {
-            vec![format!("{:.0}", ns[0] * blocks_a_call), "-".to_string(), "-".to_string()]
-        })
+        Row::new(&[name], timing::bursts(edition, line.clone(), bytes), move |ns| told_alone(ns[0] * blocks_a_call))
     };
     let rows = vec![
         Row::new(&["send of no vector"], send(0), of(1.0)),
         Row::new(&["send of 4 vectors"], send(4), of(4.0)),
         Row::new(&["receive of 8 bytes, no block"], receive(8), of(1.0)),
         Row::new(&["receive of 33 bytes, 4 blocks"], receive(33), of(4.0)),
-        burst("burst of 256 bytes, 31 blocks", 256),
+        Row::new(&["burst of no byte"], timing::empty_burst(edition, &line), |ns| told_alone(ns[0])),
         burst("burst of 1 byte", 1),
+        burst("burst of 256 bytes, 31 blocks", 256),
     ];
     Table { title: "A short call, ns", head: &["", "library", "plain Rust", "fastest Rust"], rows }
 }

@@ -4,6 +4,7 @@ use crate::ways::WAYS;
 use compare::library;
 use compare::reference::edition::Edition;
 use compare::reference::state::VECTORS;
+use std::cell::RefCell;
 use std::hint::black_box;
 use std::time::{Duration, Instant};
 
@@ -31,6 +32,9 @@ impl Timed {
         self.best.iter_mut().zip(times).for_each(|(best, time)| *best = best.min(time));
     }
 }
+
+/// A vector, and so the room that an empty burst asks for.
+const VECTOR_BYTES: usize = 10;
 
 /// What is lent to a call. Sending has no counters.
 #[derive(Clone, PartialEq)]
@@ -96,6 +100,22 @@ pub fn bursts(edition: Edition, line: Vec<u8>, bytes: usize) -> Timed {
         best(blocks, 8 * line.len() / 66 * 10, |way, lent| match way {
             0 => in_bursts(edition as u64, &line, bytes, lent),
             _ => library::receive(edition as u64, &line, &mut lent.out, &mut lent.summary, &mut lent.counters),
+        })
+    })
+}
+
+/// An empty burst after this line, in ns a call.
+pub fn empty_burst(edition: Edition, line: &[u8]) -> Timed {
+    let mut state = [0; library::STATE_BYTES];
+    let Lent { mut out, mut summary, mut counters } = Lent::new(8 * line.len() / 66 * 10 + VECTOR_BYTES);
+    let begun = library::begin(edition as u64, &mut state);
+    let done = begun | library::burst(&mut state, line, &mut out, &mut summary, &mut counters);
+    assert_eq!(done, 0, "refused");
+    let state = RefCell::new(state);
+    Timed::new::<1>(move || {
+        best(1, VECTOR_BYTES, |_, lent| {
+            let state = &mut *state.borrow_mut();
+            library::burst(state, &[], &mut lent.out, &mut lent.summary, &mut lent.counters)
         })
     })
 }

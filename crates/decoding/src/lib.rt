@@ -157,6 +157,23 @@ fn decode_control(edition: Edition, payload: u64) -> Decoded
     if r == 0 {
         return bad(Reason::BlockType);
     }
+    // eight low power idles, if the edition has them
+    if payload == 0x0c183060c183061e {
+        match edition {
+            Edition::Old => {}
+            Edition::New => {
+                return Decoded {
+                    class: Class::LI,
+                    vector: Vector {
+                        c0: 15,
+                        d0: 0x06060606,
+                        c1: 15,
+                        d1: 0x06060606,
+                    },
+                };
+            }
+        }
+    }
     let s = shapes::shape_of(payload % 16);
     decode_row(edition, r, s, payload)
 }
