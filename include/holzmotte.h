@@ -49,8 +49,8 @@ extern "C" {
 #define HOLZMOTTE_VERSION_PATCH 0
 #define HOLZMOTTE_VERSION "0.7.0"
 
-/* So much stack is enough for a call. This is tested, not proved: measured on x86-64, sending takes up to 0.7 KB, receiving 0.9 KB, a burst
- * 1.6 KB and the closing call 1.2 KB; an earlier version took 7.5 KB to send and 7.2 KB to receive on 64-bit Arm. */
+/* So much stack is enough for a call. This is tested, not proved: measured on x86-64, sending and the closing call take up to
+ * 0.7 KB, receiving 0.9 KB and a burst 0.8 KB; an earlier version took 7.5 KB to send and 7.2 KB to receive on 64-bit Arm. */
 #define HOLZMOTTE_STACK_BYTES 16384
 
 /* Sizes, in bytes. */
