@@ -1,7 +1,7 @@
 -- Any two answers that meet a function's promise are equal.
 use Prim.Native.Nat.{ℕ, _<_}
 use mathlib.Core.Path.{_≡_, sym, ap₂, _∙_}
-use mathlib.Core.Bool.{Bool, true}
+use mathlib.Core.Bool.{Bool}
 use Rattle.block.specs.declared.Kind.{Kind}
 use Rattle.diagrams.specs.Lock.{lockOf, slipsOf}
 use Rattle.diagrams.specs.Rate.{rateOf}
@@ -19,12 +19,6 @@ lock-step-unique l valid a b p q =
 
 pub rate-step-unique : (r : Rate) (before after valid : Bool) (a b : Rate) → a ≡ rateOf r before after valid → b ≡ rateOf r before after valid → a ≡ b
 rate-step-unique r before after valid a b p q = p ∙ sym q
-
-pub lock-valid-unique : (l a b : Lock) → a ≡ lockOf l true → b ≡ lockOf l true → a ≡ b
-lock-valid-unique l a b p q = p ∙ sym q
-
-pub rate-valid-unique : (r a b : Rate) → a ≡ rateOf r true true true → b ≡ rateOf r true true true → a ≡ b
-rate-valid-unique r a b p q = p ∙ sym q
 
 pub diagram-step-unique : (s : State) (k : Kind) (ends : Bool) (a b : State) → a ≡ diagramOf s k ends → b ≡ diagramOf s k ends → a ≡ b
 diagram-step-unique s k ends a b p q = p ∙ sym q

@@ -1,8 +1,6 @@
 // Document 01, 'Diagrams': block lock, error rate, transmit and receive, one step each, by value.
 ghost use mathlib.Core.Path.{_≡_};
-ghost use mathlib.Core.Bool.{true, false, cond};
-ghost use Prim.Native.Nat.{_+_, _<_, _≤_};
-ghost use lib.Dec.{leb};
+ghost use Prim.Native.Nat.{_<_, _≤_};
 ghost use Rattle.diagrams.specs.Lock.{lockOf, slipsOf, countedOf, invalidOf};
 ghost use Rattle.diagrams.specs.Rate.{rateOf, windowOf};
 ghost use Rattle.diagrams.specs.Diagram.{diagramOf, stateNumber, follows};
@@ -157,37 +155,6 @@ pub fn rate_step(r: Rate, before: bool, after: bool, valid: bool) -> Rate
     Rate {
         blocks: 0,
         invalid: 0,
-        high: false,
-    }
-}
-
-// How many invalid headers are counted on after a valid one: none where the count of tested headers is full.
-fn kept(l: Lock) -> u64
-    ensures { λ r. ⌜ r ≡ cond (leb 64 (l .tested + 1)) 0 (l .invalid) ⌝ }
-{
-    if l.tested < 63 { l.invalid } else { 0 }
-}
-
-// The lock after a valid header in lock.
-pub fn lock_valid(l: Lock) -> Lock
-    requires { ⌜ (l .tested < 64) × (l .invalid < 16) × (l .locked ≡ true) ⌝ }
-    ensures { λ r. ⌜ r ≡ lockOf l true ⌝ }
-{
-    Lock {
-        tested: (l.tested + 1) % 64,
-        invalid: kept(l),
-        locked: true,
-    }
-}
-
-// The error rate after a valid header in lock that does not end the window.
-pub fn rate_valid(r: Rate) -> Rate
-    requires { ⌜ (r .blocks + 1 < 19531) × (r .invalid < 16) × (r .high ≡ false) ⌝ }
-    ensures { λ q. ⌜ q ≡ rateOf r true true true ⌝ }
-{
-    Rate {
-        blocks: r.blocks + 1,
-        invalid: r.invalid,
         high: false,
     }
 }
