@@ -6,9 +6,9 @@ use native.Mathlib.Nat.{zero-add, mul-comm, mul-suc, le-div-iff-mul-le}
 use native.Mathlib.Omega.{arith}
 use lib.ListN.{length, getD, take, drop, length-append, List·getD-eq-default}
 use lib.Pow.{pow-pos}
-use lib.Seq.{drop-cons, getD-take, getD-drop}
+use lib.Seq.{getD-take, getD-drop}
 use Rattle.bits.specs.Bits.{bit, number, streamBit, cut, listed, lineBit, lineBits}
-use Rattle.bits.proofs.Laws.{bit-none, by-lt, number-lt, number-same, stream-lt, stream-head, stream-tail, stream-cut, length-cut, cut-same, Words, none, more}
+use Rattle.bits.proofs.Laws.{bit-none, by-lt, stream-lt, stream-head, stream-tail, stream-cut, length-cut, cut-same, Words, none, more}
 
 -- ---- the first bits of a stream
 pub length-listed : (k : ℕ) (f : ℕ → ℕ) → length (listed k f) ≡ k
@@ -68,15 +68,6 @@ drop-listed (suc p) (suc k) f =
 pub part-listed : (n p k : ℕ) (f : ℕ → ℕ) → p + n ≤ k → take n (drop p (listed k f)) ≡ listed n (λ i. f (p + i))
 part-listed n p k f l = ap (take n) (drop-listed p k f) ∙ take-listed n (k - p) (λ i. f (p + i)) (omega arith)
 
--- the number of n listed bits, from bit p on
-pub number-part : (n p k : ℕ) (f : ℕ → ℕ) → p + n ≤ k → number n (λ i. getD (listed k f) (p + i) 0) ≡ number n (λ i. f (p + i))
-number-part n p k f l =
-    number-same n (λ i. getD (listed k f) (p + i) 0) (λ i. f (p + i)) (λ i m. listed-at k f (p + i) (omega arith))
-
--- the number of all listed bits
-pub number-listed : (k : ℕ) (f : ℕ → ℕ) → number k (λ i. getD (listed k f) i 0) ≡ number k f
-number-listed k f = number-same k (λ i. getD (listed k f) i 0) f (listed-at k f)
-
 -- ---- streams of lists that are joined
 -- past the end there are zeros
 pub stream-end : (w : ℕ) (xs : List ℕ) (n : ℕ) → 0 < w → w * length xs ≤ n → streamBit w xs n ≡ 0
@@ -129,12 +120,6 @@ cut-join v w k j xs ys z e =
     (cut-same w j (λ i. streamBit v (xs ++ ys) (w * k + i)) (streamBit v ys)
     (λ i l. ap (λ (n : ℕ). streamBit v (xs ++ ys) (n + i)) e ∙ stream-right v z xs ys i))
 
--- the words of a cut fit their width
-pub cut-words : (w k : ℕ) (f : ℕ → ℕ) → ((i : ℕ) → f i < 2) → Words w (cut w f k)
-unfolding cut
-cut-words w zero f b = none
-cut-words w (suc k) f b = more (number-lt w f (λ i l. b i)) (cut-words w k (λ i. f (w + i)) (λ i. b (w + i)))
-
 -- each fits
 pub words-lt : (w : ℕ) {xs : List ℕ} → Words w xs → (i : ℕ) → getD xs i 0 < 2 ^ w
 words-lt w none i = pow-pos w
@@ -150,10 +135,6 @@ words w (x ∷ xs) b = more (b 0) (words w xs (λ i. b (suc i)))
 pub words-append : (w : ℕ) {xs ys : List ℕ} → Words w xs → Words w ys → Words w (xs ++ ys)
 words-append w none s = s
 words-append w (more l r) s = more l (words-append w r s)
-
--- each number of a cut fits
-pub cut-lt : (w k : ℕ) (f : ℕ → ℕ) → ((i : ℕ) → f i < 2) → (i : ℕ) → getD (cut w f k) i 0 < 2 ^ w
-cut-lt w k f b = words-lt w (cut-words w k f b)
 
 -- ---- the bits of a line
 pub lineBit-lt : (line : List ℕ) (n : ℕ) → lineBit line n < 2
@@ -196,21 +177,10 @@ lineBits-append a b =
     (listed-same (8 * length a) (streamBit 8 (a ++ b)) (streamBit 8 a) (λ i l. stream-left 8 (omega arith) a b i l))
     (listed-same (8 * length b) (λ i. streamBit 8 (a ++ b) (8 * length a + i)) (streamBit 8 b) (λ i l. stream-right 8 (omega arith) a b i))
 
--- the line bits from bit p on
-pub drop-lineBits : (p : ℕ) (line : List ℕ) → drop p (lineBits line) ≡ listed (8 * length line - p) (λ i. lineBit line (p + i))
-unfolding lineBits
-drop-lineBits p line = drop-listed p (8 * length line) (lineBit line)
-
 -- n line bits from bit p on
 pub part-lineBits : (n p : ℕ) (line : List ℕ) → p + n ≤ 8 * length line → take n (drop p (lineBits line)) ≡ listed n (λ i. lineBit line (p + i))
 unfolding lineBits
 part-lineBits n p line l = part-listed n p (8 * length line) (lineBit line) l
-
--- the next line bit, and those after it
-pub next-lineBit : (p : ℕ) (line : List ℕ) → p < 8 * length line → drop p (lineBits line) ≡ lineBit line p ∷ drop (suc p) (lineBits line)
-next-lineBit p line l =
-    drop-cons (lineBits line) p 0 (omega (arith, length-lineBits line))
-    ∙ ap (λ (b : ℕ). b ∷ drop (suc p) (lineBits line)) (lineBits-at line p l)
 
 -- the bits of a line that was cut from a stream
 pub lineBits-cut : (k : ℕ) (f : ℕ → ℕ) → ((i : ℕ) → f i < 2) → lineBits (cut 8 f k) ≡ listed (8 * k) f

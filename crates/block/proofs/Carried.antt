@@ -10,7 +10,8 @@ use borrow.Author.Tests.{ltb-true, ltb-false, eq-eqb, ne-eqb, eqb-true}
 use Rattle.block.specs.declared.Edition.{Edition}
 use Rattle.block.specs.declared.Edition.the-variants.{Old, New}
 use Rattle.block.specs.declared.Kind.the-variants.{C, E}
-use Rattle.block.specs.Block.{Slot, Control, Calm, Data, Set, Start, Terminate, Field, Format, noFormat, controlsIn, sets, without, codeIn, octetIn, codeOf, octetOf, controlBit, codeFor, flagOf, laneOf, sentCode, carries, carrierBy, carrier, carrierKind, vectorKind, octetAt, flagAt, formatOf, vectorOf, valid, errorVector, localFaultVector, kindFor, kindOf, decoded, some}
+use Rattle.block.specs.Block.{Slot, Control, Calm, Data, Set, Start, Terminate, Field, Format, noFormat, controlsIn, sets, without, codeIn, octetIn, codeOf, octetOf, controlBit, codeFor}
+use Rattle.block.specs.Block.{flagOf, laneOf, sentCode, carries, carrierBy, carrier, carrierKind, vectorKind, octetAt, flagAt, formatOf, vectorOf, valid, errorVector, localFaultVector, kindFor, kindOf, decoded, some}
 use Rattle.block.specs.Rows.{formats, row, formatRow}
 use Rattle.block.proofs.Tests.{both-left, both-right, or-right, all, holds, every, every-at, is-true, by-test}
 use Rattle.block.proofs.Formats.{has, blind, row-none, row-format}

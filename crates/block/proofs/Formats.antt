@@ -8,10 +8,9 @@ use native.Mathlib.Omega.{arith}
 use lib.Dec.{T, lit≤, eqb, ltb, leb, ltb→lt, leb→le, eqb→eq}
 use lib.ListN.{length, getD, List·getD-eq-default}
 use lib.Pow.{shr-shr}
-use borrow.Author.Tests.{eqb-true}
 use Rattle.block.specs.declared.Edition.{Edition}
-use Rattle.block.specs.Block.{Slot, Control, Calm, Data, Set, Start, Terminate, Field, Format, noFormat, dataBlock, controlBlocks, octetOf, controlBit, octetAt, flagAt, flagsAt, byType, formatOf}
-use Rattle.block.specs.Rows.{width, fieldAt, placeAt, bitsOf, formats, row, rowOf, indexOf, formatRow}
+use Rattle.block.specs.Block.{Slot, Control, Calm, Data, Set, Start, Terminate, Field, Format, noFormat, dataBlock, controlBlocks, octetOf, controlBit, octetAt, flagAt, flagsAt, byType, formatOf, placeAt}
+use Rattle.block.specs.Rows.{width, fieldAt, bitsOf, formats, row, rowOf, indexOf, formatRow}
 use Rattle.block.proofs.Tests.{both-left, both-right, or-right, all, holds, every, every-at, each, at, eight}
 
 -- ---- the field of a character
@@ -187,11 +186,3 @@ of-format P q t g n h x = go (eqb h 2) (eqb h 1)
     go true b = g dataBlock (both-left (q dataBlock) (every q controlBlocks) t)
     go false true = of-type P q controlBlocks (both-right (q dataBlock) (every q controlBlocks) t) g n (x % 2 ^ 8)
     go false false = n
-
-pub found-type : (fs : List Format) (y : ℕ) → (byType fs y ≡ noFormat → ⊥) → byType fs y .type ≡ y
-found-type [] y n = absurd (n refl)
-found-type (f ∷ fs) y n = go (eqb (f .type) y) refl n (found-type fs y)
-  where
-    go : (b : Bool) → eqb (f .type) y ≡ b → (cond b f (byType fs y) ≡ noFormat → ⊥) → ((byType fs y ≡ noFormat → ⊥) → byType fs y .type ≡ y) → cond b f (byType fs y) .type ≡ y
-    go true e n ih = eqb-true (f .type) y e
-    go false e n ih = ih n

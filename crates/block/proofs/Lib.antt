@@ -6,5 +6,7 @@ pub mod Classes
 pub mod OldKinds
 pub mod Sending
 pub mod Carried
+pub mod Types
 pub mod Near
 pub mod High
+pub mod Demand1

@@ -1,11 +1,11 @@
 -- Two control blocks that are near, neither of kind E: what the least distances of the types and of the codes say of them.
-use mathlib.Core.Path.{_≡_, refl, _∙_, ap, ap₂, subst, subst₂, sym}
-use mathlib.Core.Bool.{Bool, true, false, cond, not, _||_}
+use mathlib.Core.Path.{_≡_, refl, _∙_, ap, ap₂, subst, sym}
+use mathlib.Core.Bool.{Bool, true, false, not}
 use mathlib.Core.List.{List, [], _∷_}
 use Prim.Native.Nat.{ℕ, zero, suc, _+_, _-_, _/_, _%_, _^_, _<_, _≤_}
 use native.Mathlib.Nat.{mod-lt, not-le-of-lt, div-one}
 use native.Mathlib.Omega.{arith}
-use lib.Dec.{T, lit<, lit≤, eqb, ltb, leb, ltb→lt, eqb→eq}
+use lib.Dec.{T, lit<, lit≤, eqb, ltb, leb, leb→le, ltb→lt, eqb→eq}
 use lib.ListN.{getD}
 use lib.Pow.{pow-pos}
 use borrow.Author.Tests.{eqb-true, eqb-false}
@@ -13,22 +13,17 @@ use Rattle.bits.specs.Bits.{bit, total}
 use Rattle.bits.proofs.Laws.{bit-mod, bit-shr, total-add, total-same}
 use Rattle.block.specs.declared.Edition.{Edition}
 use Rattle.block.specs.declared.Edition.the-variants.{Old, New}
-use Rattle.block.specs.declared.Kind.the-variants.{LI, E}
+use Rattle.block.specs.declared.Kind.the-variants.{E}
 use Rattle.block.specs.Block.{Slot, Control, Calm, Data, Set, Start, Terminate, Format, noFormat, controlBlocks, kindFor, octetOf, controlBit, flagAt, flagOf, laneOf, byType, formatOf, vectorOf, kindBy, kindOf, decoded}
 use Rattle.block.specs.Rows.{width, fieldAt}
 use Rattle.block.specs.Distance.{differing, Near}
-use Rattle.block.proofs.Tests.{eight, or-right, unless, unless-right, not-leb, all, holds, every, each, at}
-use Rattle.block.proofs.Formats.{flag-at, sound-has, sound-width, sound-place, found, found-type, blind}
+use Rattle.block.proofs.Tests.{eight, unless, unless-right, not-leb, all, holds, each, at}
+use Rattle.block.proofs.Formats.{flag-at, sound-has, sound-width, sound-place, found, blind}
+use Rattle.block.proofs.Types.{types-far, has-entry}
 use Rattle.block.proofs.Sending.{ten}
 use Rattle.block.proofs.Reading.{low-kind, decoded-byte, good-kind, good-vector, good-sound, vector-flag, vector-lane, placeOf, read-at, data-bit}
 
 -- ---- the least distances, each a test over its whole table: two that are not the same differ in more than k bits
-
-farTypes : ℕ → Format → Format → Bool
-farTypes k f g = eqb (f .type) (g .type) || ltb k (differing 0 8 (f .type) (g .type))
-
-typesApart : ℕ → Bool
-typesApart k = every (λ f. every (farTypes k f) controlBlocks) controlBlocks
 
 farCodes : Edition → ℕ → Slot → ℕ → ℕ → Bool
 farCodes ed k s c e = unless (leb 256 (octetOf ed s e)) (λ u. unless (eqb c e) (λ w. ltb k (differing 0 (width s) c e)))
@@ -39,22 +34,26 @@ farFrom ed k s c = unless (leb 256 (octetOf ed s c)) (λ u. each (farCodes ed k 
 codesApart : Edition → ℕ → Slot → Bool
 codesApart ed k s = each (farFrom ed k s) 0 (2 ^ width s)
 
--- of the types, the control characters, those of type 1e and the ordered sets
+-- of the control characters, those of type 1e and the ordered sets
+pub codesFar : Edition → ℕ → List Bool
+codesFar ed k = codesApart ed k Control ∷ codesApart ed k Calm ∷ codesApart ed k Set ∷ []
+
+-- and of the types, by the rule of their table
 pub apart : Edition → ℕ → List Bool
-apart ed k = typesApart k ∷ codesApart ed k Control ∷ codesApart ed k Calm ∷ codesApart ed k Set ∷ []
+apart ed k = leb k 3 ∷ codesFar ed k
 
 -- Of the tables of Clause 49 any two differ in at least four bits, with the low power idle character in at least two.
 pub four-apart : T (all (apart Old 3))
-unfolding apart typesApart farTypes codesApart farFrom farCodes differing total bit
+unfolding apart codesFar codesApart farFrom farCodes differing total bit
 four-apart = tt
 
 pub two-apart : T (all (apart New 1))
-unfolding apart typesApart farTypes codesApart farFrom farCodes differing total bit
+unfolding apart codesFar codesApart farFrom farCodes differing total bit
 two-apart = tt
 
--- These are the least distances: no more can be asked for.
-pub no-further : T (not (all (apart Old 4))) × T (not (all (apart New 2)))
-unfolding apart typesApart farTypes codesApart farFrom farCodes differing total bit
+-- These are the least distances: no more can be asked of the codes.
+pub no-further : T (not (all (codesFar Old 4))) × T (not (all (codesFar New 2)))
+unfolding codesFar codesApart farFrom farCodes differing total bit
 no-further = (tt, tt)
 
 -- a code that type 1e takes is a control character's, and is not 1e
@@ -111,17 +110,11 @@ window k a w m x y e h l n =
 module _ (ed : Edition) where
   -- ---- what the tests say of two types and of two codes
 
-  pub types-apart : (k y z : ℕ) → T (all (apart ed k)) → (byType controlBlocks y ≡ noFormat → ⊥) → (byType controlBlocks z ≡ noFormat → ⊥) → (y ≡ z → ⊥) → k < differing 0 8 y z
-  unfolding apart typesApart farTypes
-  types-apart k y z t ny nz n =
-      let f : Format = byType controlBlocks y in
-      let g : Format = byType controlBlocks z in
-      let a : T (every (farTypes k f) controlBlocks) = found (λ f. every (farTypes k f) controlBlocks) controlBlocks y (holds (apart ed k) 0 t) ny in
-      let b : T (farTypes k f g) = found (farTypes k f) controlBlocks z a nz in
-      let ey : f .type ≡ y = found-type controlBlocks y ny in
-      let ez : g .type ≡ z = found-type controlBlocks z nz in
-      let w : T (eqb y z || ltb k (differing 0 8 y z)) = subst₂ (λ (i j : ℕ). T (eqb i j || ltb k (differing 0 8 i j))) ey ez b in
-      ltb→lt k (differing 0 8 y z) (or-right (eqb y z) (ltb k (differing 0 8 y z)) w (λ e. n (eqb→eq y z e)))
+  types-apart : (k y z : ℕ) → T (all (apart ed k)) → y < 256 → z < 256 → (byType controlBlocks y ≡ noFormat → ⊥) → (byType controlBlocks z ≡ noFormat → ⊥)
+      → (y ≡ z → ⊥) → k < differing 0 8 y z
+  unfolding apart
+  types-apart k y z t hy hz ny nz n =
+      omega (arith, leb→le k 3 (holds (apart ed k) 0 t), types-far y z hy hz (has-entry y hy ny) (has-entry z hz nz) n)
 
   codes-apart : (k : ℕ) (s : Slot) (c e : ℕ) → T (codesApart ed k s) → c < 2 ^ width s → e < 2 ^ width s → octetOf ed s c < 256 → octetOf ed s e < 256 → (c ≡ e → ⊥)
       → k < differing 0 (width s) c e
@@ -163,7 +156,7 @@ module _ (ed : Edition) where
     same-octet : (s : Slot) (a w : ℕ) → controlBit s ≡ 1 → ((T (blind s) → ⊥) → w ≡ width s) → 8 ≤ a → a + width s ≤ 64
         → octetOf ed s (x / 2 ^ a % 2 ^ w) < 256 → octetOf ed s (y / 2 ^ a % 2 ^ w) < 256
         → octetOf ed s (x / 2 ^ a % 2 ^ w) ≡ octetOf ed s (y / 2 ^ a % 2 ^ w)
-    unfolding apart
+    unfolding apart codesFar
     same-octet Data a w b e h l hx hy = absurd (let z : _≡_ {A = ℕ} 0 1 = b in omega arith)
     same-octet Start a w b e h l hx hy = refl
     same-octet Terminate a w b e h l hx hy = refl
@@ -190,7 +183,7 @@ module _ (ed : Edition) where
 
       go : (b : Bool) → eqb (x % 2 ^ 8) (y % 2 ^ 8) ≡ b → x % 2 ^ 8 ≡ y % 2 ^ 8
       go true q = eqb-true (x % 2 ^ 8) (y % 2 ^ 8) q
-      go false q = absurd (not-le-of-lt (types-apart k (x % 2 ^ 8) (y % 2 ^ 8) t nx ny (eqb-false (x % 2 ^ 8) (y % 2 ^ 8) q)) close)
+      go false q = absurd (not-le-of-lt (types-apart k (x % 2 ^ 8) (y % 2 ^ 8) t (mod-lt x (lit< tt)) (mod-lt y (lit< tt)) nx ny (eqb-false (x % 2 ^ 8) (y % 2 ^ 8) q)) close)
 
   -- what two control blocks have in common: the type, the kind, the control bytes, and each control character, an ordered set's among them
   pub record Alike (x y : ℕ) : Type 0 where
@@ -251,7 +244,11 @@ module _ (ed : Edition) where
     near-blocks =
         record {
           same-types = same-type k x y t n (known x gx) (known y gy);
-          same-kinds = good-kind ed 1 x gx ∙ low-kind (formatOf 1 x) (decoded ed 1 x) (decoded ed 1 y) (λ a. as-sent (ap (λ (v : List ℕ). getD v 0 0) a) (ap (λ (v : List ℕ). getD v 5 0) a)) (λ a. as-sent (same-low ∙ ap (λ (v : List ℕ). getD v 0 0) a) (same-high ∙ ap (λ (v : List ℕ). getD v 5 0) a)) ∙ ap (λ (g : Format). kindFor g (decoded ed 1 y)) (sym one-format) ∙ sym (good-kind ed 1 y gy);
+          same-kinds =
+              good-kind ed 1 x gx ∙ low-kind (formatOf 1 x) (decoded ed 1 x) (decoded ed 1 y)
+              (λ a. as-sent (ap (λ (v : List ℕ). getD v 0 0) a) (ap (λ (v : List ℕ). getD v 5 0) a))
+              (λ a. as-sent (same-low ∙ ap (λ (v : List ℕ). getD v 0 0) a) (same-high ∙ ap (λ (v : List ℕ). getD v 5 0) a)) ∙ ap
+              (λ (g : Format). kindFor g (decoded ed 1 y)) (sym one-format) ∙ sym (good-kind ed 1 y gy);
           same-lows = same-low;
           same-highs = same-high;
           same-controls = same-lane;
@@ -272,7 +269,7 @@ module _ (ed : Edition) where
 
   -- A block that is near one of type 1e whose first code is 1e, as that of state E is, is of kind E.
   pub near-error : (k x y : ℕ) → T (all (apart ed k)) → Near k x y → x % 2 ^ 8 ≡ 0x1e → x / 2 ^ 8 % 2 ^ 7 ≡ 0x1e → (kindOf ed 1 y ≡ E → ⊥) → ⊥
-  unfolding apart calmCode
+  unfolding apart codesFar calmCode
   near-error k x y t n tx cx gy =
       not-le-of-lt
       (codes-apart k Control 0x1e c (holds (apart ed k) 1 t) (lit< tt) (mod-lt (y / 2 ^ 8) (lit< tt)) (error-code ed) (ltb→lt (octetOf ed Control c) 256 (holds tests 0 fine)) (λ e. other e))

@@ -1,5 +1,5 @@
 -- No block of the old edition is low power idle, and none is of kind LI. Assumes nothing.
-use mathlib.Core.Path.{_≡_, refl, _∙_, ap, sym, subst}
+use mathlib.Core.Path.{_≡_, _∙_, ap, sym, subst}
 use mathlib.Core.Bool.{Bool, true, false, cond, not, _&&_, _||_}
 use mathlib.Core.List.{List, [], _∷_}
 use Prim.Native.Nat.{ℕ, _%_, _^_}
@@ -10,9 +10,8 @@ use Rattle.block.specs.declared.Edition.the-variants.{Old}
 use Rattle.block.specs.declared.Kind.{Kind}
 use Rattle.block.specs.declared.Kind.the-variants.{D, C, S, T as T′, E, LI}
 use Rattle.block.specs.declared.Reason.the-variants.{Header, BlockType, ControlCode, SetCode}
-use Rattle.block.specs.declared.Class.{Class}
 use Rattle.block.specs.declared.Class.the-variants.{Bad}
-use Rattle.block.specs.Block.{Slot, Control, Calm, Data, Set, Start, Terminate, Format, controlBlocks, controls, sets, without, octetIn, octetOf, controlBit, flagOf, laneOf, formatOf, vectorOf, lowPowerVector, kindFor, some, says, good, classOf, kindIn}
+use Rattle.block.specs.Block.{Slot, Control, Calm, Data, Set, Start, Terminate, controlBlocks, controls, sets, without, octetIn, octetOf, controlBit, flagOf, laneOf, formatOf, vectorOf, lowPowerVector, kindFor, some, says, good, classOf, kindIn}
 use Rattle.block.specs.Rows.{fieldAt}
 use Rattle.block.proofs.Tests.{both-left, both-right, all, every}
 use Rattle.block.proofs.Formats.{flag-at, sound, all-sound, sound-has, of-format}

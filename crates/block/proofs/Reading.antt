@@ -1,6 +1,6 @@
 -- Laws of a block that was received: its kind, the ten bytes of its vector, and where its data bits stand.
 use mathlib.Core.Path.{_≡_, refl, _∙_, ap, ap₂, subst, sym}
-use mathlib.Core.Bool.{Bool, true, false, cond, not, _&&_}
+use mathlib.Core.Bool.{Bool, true, false, cond, _&&_}
 use mathlib.Core.List.{List, [], _∷_}
 use Prim.Native.Nat.{ℕ, zero, suc, _+_, _/_, _%_, _^_, _<_, _≤_}
 use native.Mathlib.Nat.{mod-lt}
@@ -8,16 +8,16 @@ use native.Mathlib.Omega.{arith}
 use lib.Dec.{T, lit<, eqb, ltb, ltb→lt, eqb→eq}
 use lib.ListN.{length, getD}
 use lib.Pow.{shr-shr}
-use borrow.Author.Tests.{lt-ltb, eqb-true}
+use borrow.Author.Tests.{lt-ltb}
 use Rattle.bits.specs.Bits.{bit}
 use Rattle.bits.proofs.Laws.{bit-mod, bit-shr}
 use Rattle.block.specs.declared.Edition.{Edition}
 use Rattle.block.specs.declared.Kind.{Kind}
-use Rattle.block.specs.declared.Kind.the-variants.{D, C, S, T as T′, E, LI}
-use Rattle.block.specs.Block.{Slot, Control, Calm, Data, Set, Start, Terminate, Format, noFormat, dataBlock, controlBlocks, lowPowerVector, same, kindFor, octetOf, controlBit, octetAt, flagAt, flagOf, laneOf, byType, formatOf, vectorOf, valid, allBelow, errorVector, kindBy, decodedBy, kindOf, decoded, isD, isError}
-use Rattle.block.specs.Rows.{width, fieldAt, placeAt, SameFlags}
+use Rattle.block.specs.declared.Kind.the-variants.{E, LI}
+use Rattle.block.specs.Block.{Slot, Control, Calm, Data, Set, Start, Terminate, Format, dataBlock, lowPowerVector, same, kindFor, octetOf, controlBit, octetAt, flagAt, flagOf, laneOf, formatOf, vectorOf, valid, allBelow, errorVector, kindBy, decodedBy, kindOf, decoded, placeAt}
+use Rattle.block.specs.Rows.{width, fieldAt, SameFlags}
 use Rattle.block.proofs.Tests.{both-left, both-right, all, eight, is-true, by-test}
-use Rattle.block.proofs.Formats.{octet-at, flag-at, flag-le, flags-lt, blind, sound, all-sound, sound-has, sound-width, sound-place, of-type, of-format}
+use Rattle.block.proofs.Formats.{octet-at, flag-at, flag-le, blind, sound, all-sound, sound-has, sound-width, sound-place, of-format}
 
 -- ---- numbers below a bound
 
@@ -120,7 +120,7 @@ module _ (ed : Edition) where
         (ap (λ (b : Bool). cond b (kindFor f (vectorOf ed f x)) E) e, ap (λ (b : Bool). cond b (vectorOf ed f x) errorVector) e)
 
   module _ (h x : ℕ) where
-    -- a decoded vector has ten bytes, and control bytes below 16
+    -- a decoded vector has ten bytes
     pub decoded-length : length (decoded ed h x) ≡ 10
     unfolding decoded
     decoded-length = decided (λ k v. length v ≡ 10) (formatOf h x) x (λ e. refl) (λ e. refl)
@@ -133,41 +133,10 @@ module _ (ed : Edition) where
     pub decoded-byte : (n : ℕ) → getD (decoded ed h x) n 0 < 256
     decoded-byte = below-at 256 (decoded ed h x) (lit< tt) decoded-below
 
-    pub decoded-low : getD (decoded ed h x) 0 0 < 16
-    unfolding decoded
-    decoded-low = decided (λ k v. getD v 0 0 < 16) (formatOf h x) x (λ e. flags-lt (formatOf h x .fields) 0) (λ e. lit< tt)
-
-    pub decoded-high : getD (decoded ed h x) 5 0 < 16
-    unfolding decoded
-    decoded-high = decided (λ k v. getD v 5 0 < 16) (formatOf h x) x (λ e. flags-lt (formatOf h x .fields) 4) (λ e. lit< tt)
-
-  -- ---- kinds
-
-  -- kind E is answered with the error vector
-  pub decoded-error : (h x : ℕ) → kindOf ed h x ≡ E → decoded ed h x ≡ errorVector
-  unfolding kindOf decoded
-  decoded-error h x =
-      of-format (λ f. kindBy ed f x ≡ E → decodedBy ed f x ≡ errorVector) (λ f. not (isError (f .kind))) tt
-      (λ f t. decided (λ k v. k ≡ E → v ≡ errorVector) f x (λ e q. absurd (subst (λ (k : Kind). T (not (isError k))) q (kind-for (λ k. T (not (isError k))) f (vectorOf ed f x) tt t))) (λ e q. refl))
-      (λ q. refl) h x
-
   -- eight data octets are bytes
   pub data-below : (x : ℕ) → Below 256 (vectorOf ed dataBlock x)
   data-below x =
       (lit< tt, (mod-lt _ (lit< tt), (mod-lt _ (lit< tt), (mod-lt _ (lit< tt), (mod-lt _ (lit< tt), (lit< tt, (mod-lt _ (lit< tt), (mod-lt _ (lit< tt), (mod-lt _ (lit< tt), (mod-lt _ (lit< tt), tt))))))))))
-
-  -- kind D is header 2
-  pub kind-data : (h x : ℕ) → kindOf ed h x ≡ D → h ≡ 2
-  unfolding kindOf
-  kind-data h x = go (eqb h 2) refl (eqb h 1)
-    where
-      never : (f : Format) → T (not (isD (f .kind))) → kindBy ed f x ≡ D → h ≡ 2
-      never f t = decided (λ k v. k ≡ D → h ≡ 2) f x (λ e q. absurd (subst (λ (k : Kind). T (not (isD k))) q (kind-for (λ k. T (not (isD k))) f (vectorOf ed f x) tt t))) (λ e q. absurd (subst (λ (k : Kind). T (not (isD k))) q tt))
-
-      go : (a : Bool) → eqb h 2 ≡ a → (b : Bool) → kindBy ed (cond a dataBlock (cond b (byType controlBlocks (x % 2 ^ 8)) noFormat)) x ≡ D → h ≡ 2
-      go true e b q = eqb-true h 2 e
-      go false e true q = of-type (λ f. kindBy ed f x ≡ D → h ≡ 2) (λ f. not (isD (f .kind))) controlBlocks tt never (never noFormat tt) (x % 2 ^ 8) q
-      go false e false q = never noFormat tt q
 
   -- ---- a block that is not of kind E
 

@@ -14,8 +14,9 @@ use borrow.Author.Tests.{eqb-true}
 use Rattle.block.specs.declared.Edition.{Edition}
 use Rattle.block.specs.declared.Edition.the-variants.{Old, New}
 use Rattle.block.specs.declared.Kind.{Kind}
-use Rattle.block.specs.declared.Kind.the-variants.{LI, E}
-use Rattle.block.specs.Block.{Slot, Control, Calm, Data, Set, Start, Terminate, Field, Format, noFormat, controls, controlsIn, sets, without, codeIn, codeOf, octetOf, controlBit, codeFor, kindFor, flagOf, laneOf, sentCode, packed, carries, payloadOf, block, none, carrierBy, carrier, octetAt, flagAt, formatOf, vectorOf, kindBy, decodedBy, kindOf, decoded, isError}
+use Rattle.block.specs.declared.Kind.the-variants.{E}
+use Rattle.block.specs.Block.{Slot, Control, Calm, Data, Set, Start, Terminate, Field, Format, noFormat, controlsIn, sets, without, codeIn, codeOf, octetOf, controlBit, codeFor, kindFor}
+use Rattle.block.specs.Block.{flagOf, laneOf, sentCode, packed, carries, payloadFor, block, none, carrierBy, carrier, octetAt, flagAt, formatOf, vectorOf, kindBy, decodedBy, kindOf, decoded, isError}
 use Rattle.block.specs.Rows.{width, bitsOf, formats, row, rowOf, formatRow, SameFlags}
 use Rattle.block.proofs.Tests.{both-left, both-right, or-right, all, every, every-at, each, at, is-true, by-test}
 use Rattle.block.proofs.Formats.{has, roomy, sound, sound-roomy, sound-bits, sound-type, sound-has, row-sound, row-format}
@@ -170,9 +171,9 @@ module _ (ed : Edition) where
             ∙ ap (flagOf v) (eqb-true (f .char) p e)
         go false e h ih = ih h
 
-  pub payload-lt : (v : List ℕ) (f : Format) → T (all (sound f)) → T (carries ed v (f .fields)) → payloadOf ed v f < 2 ^ 64
+  pub payload-lt : (v : List ℕ) (f : Format) → T (all (sound f)) → T (carries ed v (f .fields)) → payloadFor ed v f < 2 ^ 64
   payload-lt v f s t =
-      subst (λ (n : ℕ). payloadOf ed v f < 2 ^ n) (sound-bits f s) (above-lt (f .lead) (bitsOf (f .fields)) (sound-type f s) (packed-lt v (f .fields) (sound-roomy f s) t))
+      subst (λ (n : ℕ). payloadFor ed v f < 2 ^ n) (sound-bits f s) (above-lt (f .lead) (bitsOf (f .fields)) (sound-type f s) (packed-lt v (f .fields) (sound-roomy f s) t))
 
   -- ---- the format that carries a vector, by its row
 
@@ -182,7 +183,7 @@ module _ (ed : Edition) where
     carry : T (carries ed v (getD fs place noFormat .fields))
     kind-is : kindFor (getD fs place noFormat) v ≡ k
     header-is : getD fs place noFormat .header ≡ h
-    payload-is : payloadOf ed v (getD fs place noFormat) ≡ x
+    payload-is : payloadFor ed v (getD fs place noFormat) ≡ x
 
   carrying : (fs : List Format) (v : List ℕ) (k : Kind) (h x : ℕ) → carrierBy ed fs v ≡ block k h x → Carrying fs v k h x
   carrying [] v k h x e = absurd (never e)
@@ -191,7 +192,7 @@ module _ (ed : Edition) where
       never w = let z : _≡_ {A = ℕ} 0 1 = cc in omega arith
   carrying (f ∷ fs) v k h x e = go (carries ed v (f .fields)) refl e (carrying fs v k h x)
     where
-      go : (b : Bool) → carries ed v (f .fields) ≡ b → cond b (block (kindFor f v) (f .header) (payloadOf ed v f)) (carrierBy ed fs v) ≡ block k h x
+      go : (b : Bool) → carries ed v (f .fields) ≡ b → cond b (block (kindFor f v) (f .header) (payloadFor ed v f)) (carrierBy ed fs v) ≡ block k h x
           → (carrierBy ed fs v ≡ block k h x → Carrying fs v k h x) → Carrying (f ∷ fs) v k h x
       go true q e ih = record { place = 0; inside = omega arith; carry = is-true q; kind-is = cc; header-is = cc; payload-is = cc }
       go false q e ih =
@@ -284,45 +285,45 @@ module _ (ed : Edition) where
     s : T (all (sound (row r)))
     s = row-sound r hr
 
-    rest : payloadOf ed v (row r) / 2 ^ row r .lead ≡ packed ed v (row r .fields)
+    rest : payloadFor ed v (row r) / 2 ^ row r .lead ≡ packed ed v (row r .fields)
     rest = above-div (row r .lead) (packed ed v (row r .fields)) (sound-type (row r) s)
 
-    typed : payloadOf ed v (row r) % 2 ^ row r .lead ≡ row r .type
+    typed : payloadFor ed v (row r) % 2 ^ row r .lead ≡ row r .type
     typed = above-mod (row r .lead) (packed ed v (row r .fields)) (sound-type (row r) s)
 
-    same-row : formatRow (row r .header) (payloadOf ed v (row r)) ≡ formatRow (row r .header) (row r .type)
+    same-row : formatRow (row r .header) (payloadFor ed v (row r)) ≡ formatRow (row r .header) (row r .type)
     same-row = go (eqb (row r .header) 2) refl
       where
-        go : (b : Bool) → eqb (row r .header) 2 ≡ b → formatRow (row r .header) (payloadOf ed v (row r)) ≡ formatRow (row r .header) (row r .type)
+        go : (b : Bool) → eqb (row r .header) 2 ≡ b → formatRow (row r .header) (payloadFor ed v (row r)) ≡ formatRow (row r .header) (row r .type)
         go true e = rw e
         go false e =
             let o = or-right (eqb (row r .header) 2) (eqb (row r .header) 1 && eqb (row r .lead) 8) (every-at headed formats noFormat r all-headed hr) (λ y. subst T e y) in
             let l : row r .lead ≡ 8 = eqb→eq (row r .lead) 8 (both-right (eqb (row r .header) 1) (eqb (row r .lead) 8) o) in
-            let y : payloadOf ed v (row r) % 2 ^ 8 ≡ row r .type = subst (λ (n : ℕ). payloadOf ed v (row r) % 2 ^ n ≡ row r .type) l typed in
+            let y : payloadFor ed v (row r) % 2 ^ 8 ≡ row r .type = subst (λ (n : ℕ). payloadFor ed v (row r) % 2 ^ n ≡ row r .type) l typed in
             let z : row r .type % 2 ^ 8 ≡ row r .type = mod-eq-of-lt (subst (λ (n : ℕ). row r .type < 2 ^ n) l (sound-type (row r) s)) in
             ap (λ (n : ℕ). cond (eqb (row r .header) 2) 0 (cond (eqb (row r .header) 1) (rowOf n) 16)) (y ∙ sym z)
 
-    same-format : formatOf (row r .header) (payloadOf ed v (row r)) ≡ row r
+    same-format : formatOf (row r .header) (payloadFor ed v (row r)) ≡ row r
     unfolding sameRow
     same-format =
-        sym (row-format (row r .header) (payloadOf ed v (row r)))
+        sym (row-format (row r .header) (payloadFor ed v (row r)))
         ∙ ap row (same-row ∙ eqb→eq (formatRow (row r .header) (row r .type)) r (at sameRow 16 tt r hr))
 
-    octet : (p : ℕ) → p < 8 → octetAt ed (row r .fields) (payloadOf ed v (row r) / 2 ^ row r .lead) p ≡ laneOf v p
+    octet : (p : ℕ) → p < 8 → octetAt ed (row r .fields) (payloadFor ed v (row r) / 2 ^ row r .lead) p ≡ laneOf v p
     octet p h =
         ap (λ (n : ℕ). octetAt ed (row r .fields) n p) rest
         ∙ octets-back v byte (row r .fields) p (sound-has (row r) s p h) (sound-roomy (row r) s) t
 
-    vector-back : vectorOf ed (row r) (payloadOf ed v (row r)) ≡ v
+    vector-back : vectorOf ed (row r) (payloadFor ed v (row r)) ≡ v
     vector-back =
         let b : SameFlags v (row r) = carried-flags v (row r) low high s t in
         ten (sym (b .0)) (octet 0 (lit< tt)) (octet 1 (lit< tt)) (octet 2 (lit< tt)) (octet 3 (lit< tt)) (sym (b .1)) (octet 4 (lit< tt)) (octet 5 (lit< tt)) (octet 6 (lit< tt)) (octet 7 (lit< tt))
         ∙ sym (listed v ∙ ap (from v 0) ten-long)
 
-    row-back : (kindOf ed (row r .header) (payloadOf ed v (row r)) ≡ kindFor (row r) v) × (decoded ed (row r .header) (payloadOf ed v (row r)) ≡ v)
+    row-back : (kindOf ed (row r .header) (payloadFor ed v (row r)) ≡ kindFor (row r) v) × (decoded ed (row r .header) (payloadFor ed v (row r)) ≡ v)
     unfolding kindOf decoded
     row-back =
-        let x = payloadOf ed v (row r) in
+        let x = payloadFor ed v (row r) in
         let w : Below 256 (vectorOf ed (row r) x) = subst (Below 256) (sym vector-back) (all-small v byte) in
         (ap (λ (z : Format). kindBy ed z x) same-format ∙ when-valid ed (row r) x w .0 ∙ ap (kindFor (row r)) vector-back, ap (λ (z : Format). decodedBy ed z x) same-format ∙ when-valid ed (row r) x w .1 ∙ vector-back)
 

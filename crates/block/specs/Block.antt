@@ -129,9 +129,9 @@ abbrev pub t : ℕ → ℕ → Field
 t p n = record { slot = Terminate; char = p; bits = n }
 
 -- the same field for n characters from p
-abbrev pub run : (ℕ → Field) → ℕ → ℕ → List Field
-run f p zero = []
-run f p (suc n) = f p ∷ run f (suc p) n
+abbrev pub several : (ℕ → Field) → ℕ → ℕ → List Field
+several f p zero = []
+several f p (suc n) = f p ∷ several f (suc p) n
 
 -- a block with this header, then the type in `lead` bits, then the fields
 pub record Format : Type 0 where
@@ -146,22 +146,22 @@ control k y fs = record { kind = k; header = 1; lead = 8; type = y; fields = fs 
 
 -- "k data octets, -(7-k), then 7-k codes"
 abbrev pub terminate : ℕ → ℕ → Format
-terminate y k = control T y (run d 0 k ++ t k (7 - k) ∷ run c (k + 1) (7 - k))
+terminate y k = control T y (several d 0 k ++ t k (7 - k) ∷ several c (k + 1) (7 - k))
 
 -- "A data block carries D0 to D7."
 abbrev pub dataBlock : Format
-dataBlock = record { kind = D; header = 2; lead = 0; type = 0; fields = run d 0 8 }
+dataBlock = record { kind = D; header = 2; lead = 0; type = 0; fields = several d 0 8 }
 
 -- the table of the control blocks
 abbrev pub controlBlocks : List Format
 controlBlocks =
-    control C 0x1e (run i 0 8)
-    ∷ control C 0x2d (run c 0 4 ++ o 4 ∷ run d 5 3)
-    ∷ control S 0x33 (run c 0 4 ++ s 4 4 ∷ run d 5 3)
-    ∷ control S 0x66 (run d 1 3 ++ o 0 ∷ s 4 4 ∷ run d 5 3)
-    ∷ control C 0x55 (run d 1 3 ++ o 0 ∷ o 4 ∷ run d 5 3)
-    ∷ control S 0x78 (s 0 0 ∷ run d 1 7)
-    ∷ control C 0x4b (run d 1 3 ++ o 0 ∷ run c 4 4)
+    control C 0x1e (several i 0 8)
+    ∷ control C 0x2d (several c 0 4 ++ o 4 ∷ several d 5 3)
+    ∷ control S 0x33 (several c 0 4 ++ s 4 4 ∷ several d 5 3)
+    ∷ control S 0x66 (several d 1 3 ++ o 0 ∷ s 4 4 ∷ several d 5 3)
+    ∷ control C 0x55 (several d 1 3 ++ o 0 ∷ o 4 ∷ several d 5 3)
+    ∷ control S 0x78 (s 0 0 ∷ several d 1 7)
+    ∷ control C 0x4b (several d 1 3 ++ o 0 ∷ several c 4 4)
     ∷ terminate 0x87 0
     ∷ terminate 0x99 1
     ∷ terminate 0xaa 2
@@ -185,6 +185,11 @@ byType (f ∷ fs) y = cond (eqb (f .type) y) f (byType fs y)
 
 abbrev pub formatOf : ℕ → ℕ → Format
 formatOf h x = cond (eqb h 2) dataBlock (cond (eqb h 1) (byType controlBlocks (x % 2 ^ 8)) noFormat)
+
+-- where the field of character p begins, after the fields before it
+abbrev pub placeAt : List Field → ℕ → ℕ
+placeAt [] p = 0
+placeAt (f ∷ fs) p = cond (eqb (f .char) p) 0 (f .bits + placeAt fs p)
 
 -- the control bit of character p
 abbrev pub flagAt : List Field → ℕ → ℕ
@@ -395,13 +400,13 @@ module _ (ed : Edition) where
   carries v [] = true
   carries v (f ∷ fs) = ltb (sentCode v f) 256 && carries v fs
 
-  abbrev pub payloadOf : List ℕ → Format → ℕ
-  payloadOf v f = f .type + 2 ^ f .lead * packed v (f .fields)
+  abbrev pub payloadFor : List ℕ → Format → ℕ
+  payloadFor v f = f .type + 2 ^ f .lead * packed v (f .fields)
 
   -- the first format that carries it
   abbrev pub carrierBy : List Format → List ℕ → Carrier
   carrierBy [] v = none
-  carrierBy (f ∷ fs) v = cond (carries v (f .fields)) (block (kindFor f v) (f .header) (payloadOf v f)) (carrierBy fs v)
+  carrierBy (f ∷ fs) v = cond (carries v (f .fields)) (block (kindFor f v) (f .header) (payloadFor v f)) (carrierBy fs v)
 
   unfoldable pub carrier : List ℕ → Carrier
   carrier v = carrierBy (dataBlock ∷ controlBlocks) v

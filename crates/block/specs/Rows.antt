@@ -1,5 +1,4 @@
--- A reviewer can skip this file, but for `placeAt`, of which demand 3 speaks: the parts of a format by their numbers, which the laws and the
--- tables of the code speak of.
+-- A reviewer can skip this file: the parts of a format by their numbers, which the laws and the tables of the code speak of.
 use mathlib.Core.Path.{_≡_}
 use mathlib.Core.List.{List, [], _∷_}
 use mathlib.Core.Bool.{cond}
@@ -17,14 +16,19 @@ width Set = 4
 width Start = 0
 width Terminate = 0
 
--- the field of character p, and its place after the fields before it
+-- the number of a slot
+abbrev pub slotNumber : Slot → ℕ
+slotNumber Data = 0
+slotNumber Control = 1
+slotNumber Calm = 2
+slotNumber Set = 3
+slotNumber Start = 4
+slotNumber Terminate = 5
+
+-- the field of character p
 abbrev pub fieldAt : List Field → ℕ → Field
 fieldAt [] p = d p
 fieldAt (f ∷ fs) p = cond (eqb (f .char) p) f (fieldAt fs p)
-
-abbrev pub placeAt : List Field → ℕ → ℕ
-placeAt [] p = 0
-placeAt (f ∷ fs) p = cond (eqb (f .char) p) 0 (f .bits + placeAt fs p)
 
 -- the bits of some fields
 abbrev pub bitsOf : List Field → ℕ

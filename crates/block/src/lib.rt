@@ -32,3 +32,10 @@ pub enum Class {
     Bad(Reason),
     LI,
 }
+
+// The block of a vector. A vector that no block carries is of kind E, with the block that is sent in state E.
+pub struct Coded {
+    pub kind: Kind,
+    pub header: u64,
+    pub payload: u64,
+}

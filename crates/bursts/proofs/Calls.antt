@@ -23,15 +23,16 @@ use Rattle.receiving.proofs.Count.{tested-few}
 use Rattle.receiving.proofs.Counted.{counts-few, handed-few}
 use Rattle.receiving.proofs.Settle.{judge-length, settle-count}
 use Rattle.receiving.proofs.Verdict.{passes}
-use Rattle.bursts.specs.declared.State.{State}
+use Rattle.kept_state.specs.declared.State.{State}
 use Rattle.bursts.specs.declared.Added.{Added}
-use Rattle.bursts.specs.Meaning.{states, linkIn, feedIn}
-use Rattle.bursts.specs.Judging.{badState, burstVerdict}
+use Rattle.kept_state.specs.Meaning.{states, linkMeant, feedMeant}
+use Rattle.kept_state.specs.Coded.{WithinLimits}
+use Rattle.judging.specs.Judging.{badState, burstVerdict}
 use Rattle.bursts.specs.Burst.{stateFresh, begun, beginAnswer, settledFrom, burstBytes, burstState, closeJudged, closeAdded, closeState, summaryIn, Called, refuses, atStart, burstCall, closeCall, Replies}
 use Rattle.bursts.specs.Burst as Burst
-use Rattle.bursts.specs.Joined.{plusAdded, addedIn, Call, burst, close, callOf, Made, Follow, takenOf, givenBy, stateAfter, lineAfter, bytesAfter, addedAfter, Whole, InBursts, AsOne, NeverBad, Accepts}
-use Rattle.bursts.proofs.Orderly.{Orderly, orderly}
-use Rattle.bursts.proofs.Checks.{Fair, passes-ten, passed-all, all-passed}
+use Rattle.bursts.specs.Joined.{plusAdded, addedIn, Call, burst, close, callOf, Made, Follow, takenBy, givenBy, stateAfterCalls, lineAfterCalls, bytesAfterCalls, addedAfterCalls, Whole, InBursts, AsOne, NeverBad, Accepts}
+use Rattle.judging.proofs.Orderly.{Orderly, orderly}
+use Rattle.judging.proofs.Checks.{passes-ten, passed-all, all-passed}
 use Rattle.bursts.proofs.Going.{bytes-tens, close-tens}
 use Rattle.bursts.proofs.Sums.{sums, added-assoc, added-none, added-first, burst-sums, close-sums}
 use Rattle.bursts.proofs.Reached.{At, σ, at-first, at-few, at-next, at-count, at-handed, at-bytes, at-summary}
@@ -77,10 +78,10 @@ module _ (edition : ℕ) where
 
   -- what a call comes to, and where it leads
   abbrev Leads : (line bytes : List ℕ) (s : State) (c : Call) (d : Called) → Type 0
-  Leads line bytes s c d = Reach (line ++ takenOf c (d .answer)) (bytes ++ takes s d) (d .state) × (sums (d .state) ≡ plusAdded (sums s) (d .added))
+  Leads line bytes s c d = Reach (line ++ takenBy c (d .answer)) (bytes ++ takes s d) (d .state) × (sums (d .state) ≡ plusAdded (sums s) (d .added))
 
   -- a refused call leads nowhere
-  taken-none : (c : Call) (n p : ℕ) → takenOf c (Answer.refused n p) ≡ []
+  taken-none : (c : Call) (n p : ℕ) → takenBy c (Answer.refused n p) ≡ []
   taken-none (burst line room) n p = refl
   taken-none (close room) n p = refl
 
@@ -131,29 +132,29 @@ module _ (edition : ℕ) where
 
   -- a call that was made, by its promise
   made : (line bytes : List ℕ) (s : State) → Reach line bytes s → (m : Made) → Replies (callOf s (m .call)) (m .reply) (m .room)
-      → Reach (line ++ takenOf (m .call) (answerOf (m .reply .answer))) (bytes ++ givenBy s (m .reply) (m .room)) (m .reply .state)
+      → Reach (line ++ takenBy (m .call) (answerOf (m .reply .answer))) (bytes ++ givenBy s (m .reply) (m .room)) (m .reply .state)
       × (sums (m .reply .state) ≡ plusAdded (sums s) (m .reply .added))
   made line bytes s r m p =
       let l = leads line bytes s r (m .call) in
       let d = callOf s (m .call) in (
-        subst (λ (z : State). Reach (line ++ takenOf (m .call) (answerOf (m .reply .answer))) (bytes ++ take (10 * (z .vectors - s .vectors)) (m .room)) z) (sym (p .0))
-            (subst (λ (w : List ℕ). Reach (line ++ takenOf (m .call) (answerOf (m .reply .answer))) (bytes ++ take (10 * (d .state .vectors - s .vectors)) w) (d .state)) (sym (p .3))
-            (subst (λ (a : ReceiveAnswer). Reach (line ++ takenOf (m .call) a) (bytes ++ takes s d) (d .state)) (sym (p .1)) (l .0))),
+        subst (λ (z : State). Reach (line ++ takenBy (m .call) (answerOf (m .reply .answer))) (bytes ++ take (10 * (z .vectors - s .vectors)) (m .room)) z) (sym (p .0))
+            (subst (λ (w : List ℕ). Reach (line ++ takenBy (m .call) (answerOf (m .reply .answer))) (bytes ++ take (10 * (d .state .vectors - s .vectors)) w) (d .state)) (sym (p .3))
+            (subst (λ (a : ReceiveAnswer). Reach (line ++ takenBy (m .call) a) (bytes ++ takes s d) (d .state)) (sym (p .1)) (l .0))),
         ap sums (p .0) ∙ l .1 ∙ ap (plusAdded (sums s)) (sym (p .2)),
       )
 
   -- all calls
   all-made : (line bytes : List ℕ) (s : State) → Reach line bytes s → (ms : List Made) → Follow s ms
-      → Reach (line ++ lineAfter ms) (bytes ++ bytesAfter s ms) (stateAfter s ms) × (plusAdded (sums s) (addedAfter ms) ≡ sums (stateAfter s ms))
-  unfolding stateAfter lineAfter bytesAfter addedAfter
+      → Reach (line ++ lineAfterCalls ms) (bytes ++ bytesAfterCalls s ms) (stateAfterCalls s ms) × (plusAdded (sums s) (addedAfterCalls ms) ≡ sums (stateAfterCalls s ms))
+  unfolding stateAfterCalls lineAfterCalls bytesAfterCalls addedAfterCalls
   all-made line bytes s r [] f = (rw (append-nil line, append-nil bytes) r, added-none (sums s))
   all-made line bytes s r (m ∷ ms) f =
       let n = made line bytes s r m (f .0) in
-      let taken = takenOf (m .call) (answerOf (m .reply .answer)) in
+      let taken = takenBy (m .call) (answerOf (m .reply .answer)) in
       let given = givenBy s (m .reply) (m .room) in
       let h = all-made (line ++ taken) (bytes ++ given) (m .reply .state) (n .0) ms (f .1) in (
-        rw (← append-assoc line taken (lineAfter ms), ← append-assoc bytes given (bytesAfter (m .reply .state) ms)) (h .0),
-        sym (added-assoc (sums s) (m .reply .added) (addedAfter ms)) ∙ ap (λ (a : Added). plusAdded a (addedAfter ms)) (sym (n .1)) ∙ h .1,
+        rw (← append-assoc line taken (lineAfterCalls ms), ← append-assoc bytes given (bytesAfterCalls (m .reply .state) ms)) (h .0),
+        sym (added-assoc (sums s) (m .reply .added) (addedAfterCalls ms)) ∙ ap (λ (a : Added). plusAdded a (addedAfterCalls ms)) (sym (n .1)) ∙ h .1,
       )
 
   -- ---- from a fresh state
@@ -172,12 +173,12 @@ module _ (edition : ℕ) where
       (ltb-false 1 edition (passed (editionCheck edition) [] (k .0) .0), k .1)
 
   reach : (s : State) → beginAnswer edition ≡ begun s → (ms : List Made) → Follow s ms
-      → Reach (lineAfter ms) (bytesAfter s ms) (stateAfter s ms) × (addedAfter ms ≡ sums (stateAfter s ms))
+      → Reach (lineAfterCalls ms) (bytesAfterCalls s ms) (stateAfterCalls s ms) × (addedAfterCalls ms ≡ sums (stateAfterCalls s ms))
   reach s e ms f =
       let k = known s e in
       let a : Reach [] [] s = subst (Reach [] []) (sym (k .1)) (opened (at-first edition) refl (omega arith)) in
       let h = all-made [] [] s a ms f in
-      (h .0, sym (added-first (addedAfter ms)) ∙ ap (λ (z : State). plusAdded (sums z) (addedAfter ms)) (sym (k .1)) ∙ h .1)
+      (h .0, sym (added-first (addedAfterCalls ms)) ∙ ap (λ (z : State). plusAdded (sums z) (addedAfterCalls ms)) (sym (k .1)) ∙ h .1)
 
 -- ---- the theorem
 
@@ -219,31 +220,31 @@ whole-of edition k line bytes s (opened a o few) room last e =
 module _ (edition : ℕ) (line bytes : List ℕ) (last : Summary) (b : InBursts edition line bytes last) where
   -- the state that the closing call finds
   abbrev found : State
-  found = stateAfter (b .fresh) (b .calls)
+  found = stateAfterCalls (b .fresh) (b .calls)
 
-  reached : Reach edition (lineAfter (b .calls)) (bytesAfter (b .fresh) (b .calls)) found × (addedAfter (b .calls) ≡ sums found)
+  reached : Reach edition (lineAfterCalls (b .calls)) (bytesAfterCalls (b .fresh) (b .calls)) found × (addedAfterCalls (b .calls) ≡ sums found)
   reached = reach edition (b .fresh) (b .begins) (b .calls) (b .follow)
 
   says : closeCall found (b .room) .answer ≡ received last
   says = sym (b .closes .1) ∙ b .ends
 
-  of-calls : (last ≡ summaryOf (editionOf edition) (lineAfter (b .calls)))
-      × (bytesAfter (b .fresh) (b .calls) ++ takes found (closeCall found (b .room)) ≡ receivedVectors (editionOf edition) (lineAfter (b .calls)))
-      × (length (lineAfter (b .calls)) ≤ 825000)
+  of-calls : (last ≡ summaryOf (editionOf edition) (lineAfterCalls (b .calls)))
+      × (bytesAfterCalls (b .fresh) (b .calls) ++ takes found (closeCall found (b .room)) ≡ receivedVectors (editionOf edition) (lineAfterCalls (b .calls)))
+      × (length (lineAfterCalls (b .calls)) ≤ 825000)
   of-calls =
-      whole-of edition (known edition (b .fresh) (b .begins) .0) (lineAfter (b .calls)) (bytesAfter (b .fresh) (b .calls)) found (reached .0) (b .room) last says
+      whole-of edition (known edition (b .fresh) (b .begins) .0) (lineAfterCalls (b .calls)) (bytesAfterCalls (b .fresh) (b .calls)) found (reached .0) (b .room) last says
 
   given : givenBy found (b .reply) (b .left) ≡ takes found (closeCall found (b .room))
   given = ap₂ (λ (z : State) (x : List ℕ). take (10 * (z .vectors - found .vectors)) x) (b .closes .0) (b .closes .3)
 
   bytes-one : bytes ≡ receivedVectors (editionOf edition) line
   bytes-one =
-      sym (b .joined) ∙ ap (λ (x : List ℕ). bytesAfter (b .fresh) (b .calls) ++ x) given ∙ of-calls .1 ∙ ap (receivedVectors (editionOf edition)) (b .whole)
+      sym (b .joined) ∙ ap (λ (x : List ℕ). bytesAfterCalls (b .fresh) (b .calls) ++ x) given ∙ of-calls .1 ∙ ap (receivedVectors (editionOf edition)) (b .whole)
 
   summary-one : last ≡ summaryOf (editionOf edition) line
   summary-one = of-calls .0 ∙ ap (summaryOf (editionOf edition)) (b .whole)
 
-  added-one : plusAdded (addedAfter (b .calls)) (b .reply .added) ≡ addedIn last
+  added-one : plusAdded (addedAfterCalls (b .calls)) (b .reply .added) ≡ addedIn last
   added-one =
       let c = closing found (b .room) last (burstVerdict found 0 (length (b .room))) refl says in
       ap₂ plusAdded (reached .1) (b .closes .2 ∙ added-by found (b .room) (c .0)) ∙ sym (close-sums found) ∙ ap addedIn (sym (c .1))
@@ -264,8 +265,8 @@ whole edition line bytes last b room room′ one q enough =
 
 module _ (edition : ℕ) (line bytes : List ℕ) (s : State) (a : At edition line bytes s) (few : length line ≤ 825000) where
   -- the link
-  at-orderly : Orderly (linkIn s)
-  unfolding feedIn runOf
+  at-orderly : Orderly (linkMeant s)
+  unfolding feedMeant runOf
   at-orderly = subst Orderly (sym (ap (λ (f : Feed). f .link) (a .feed))) (orderly (editionOf edition) (lineBits line))
 
   -- the blocks
@@ -282,7 +283,7 @@ module _ (edition : ℕ) (line bytes : List ℕ) (s : State) (a : At edition lin
   at-all : length (judgedOf (editionOf edition) line) ≤ 100000
   at-all = omega (arith, judge-length Init (runOf (editionOf edition) line .tested), at-blocks)
 
-  at-fair : Fair s
+  at-fair : WithinLimits s
   at-fair =
       record {
         range = at-orderly .range;
@@ -294,7 +295,7 @@ module _ (edition : ℕ) (line bytes : List ℕ) (s : State) (a : At edition lin
         diagram = at-known;
       }
 
-  at-closed : Fair (closeState s)
+  at-closed : WithinLimits (closeState s)
   unfolding closeState closeAdded
   at-closed =
       record {
@@ -322,7 +323,7 @@ reach-edition edition line bytes s (ended given t a few b e) = ap (λ (z : State
 pub never-bad : NeverBad
 never-bad edition s b ms f =
     let r = reach edition s b ms f .0 in
-    (reach-good edition (lineAfter ms) (bytesAfter s ms) (stateAfter s ms) r, reach-edition edition (lineAfter ms) (bytesAfter s ms) (stateAfter s ms) r)
+    (reach-good edition (lineAfterCalls ms) (bytesAfterCalls s ms) (stateAfterCalls s ms) r, reach-edition edition (lineAfterCalls ms) (bytesAfterCalls s ms) (stateAfterCalls s ms) r)
 
 -- and accepted before the closing call
 reach-size : (edition : ℕ) (line bytes : List ℕ) (s : State) → Reach edition line bytes s → s .closed ≡ false → s .bytes ≡ length line
@@ -331,8 +332,8 @@ reach-size edition line bytes s (ended given t a few b e) u = absurd (true≢fal
 
 pub accepts : Accepts
 accepts edition s b ms f u line room sum fits =
-    let t = stateAfter s ms in
-    let n = reach-size edition (lineAfter ms) (bytesAfter s ms) t (reach edition s b ms f .0) u in
+    let t = stateAfterCalls s ms in
+    let n = reach-size edition (lineAfterCalls ms) (bytesAfterCalls s ms) t (reach edition s b ms f .0) u in
     let k = known edition s b .0 in
     let good = never-bad edition s b ms f in
     all-passed t line room (record { known = omega (arith, good .1, k); unclosed = u; good = good .0; sum = omega (arith, n); fits = fits })

@@ -19,7 +19,7 @@ use Rattle.receiving.specs.Receive.{judge, judgedAlone, countsOf, handedOf}
 use Rattle.receiving.specs.Parts.{Settled, settle, bytesOf, noCounts, plus, noneHanded, plusHanded}
 use Rattle.receiving.specs.Counted.{Within, HandedWithin}
 use Rattle.receiving.specs.Loop as Loop
-use Rattle.receiving.specs.Loop.{Ends, written, heldBytes, heldHanded, heldAlone}
+use Rattle.receiving.specs.Loop.{Ends, writtenBy, heldBytes, heldHanded, heldAlone}
 use Rattle.receiving.specs.Answer.{received, answerOf}
 use Rattle.receiving.specs.Answer as Answer
 use Rattle.receiving.specs.declared.Counts.{Counts}
@@ -30,16 +30,16 @@ use Rattle.receiving.proofs.Each.{each-append}
 use Rattle.receiving.proofs.Count.{tested-bits, tens-run}
 use Rattle.receiving.proofs.Counted.{hand-first, counts-few, handed-few, within-wide, handed-wide}
 use Rattle.receiving.proofs.Settle.{settle-count, settle-tens, judge-length, judge-tens, last-bytes, alone-held, handed-held}
-use Rattle.bursts.specs.declared.State.{State}
-use Rattle.bursts.specs.declared.Kept.{Kept}
+use Rattle.kept_state.specs.declared.State.{State}
 use Rattle.bursts.specs.declared.Reply.{Reply}
-use Rattle.bursts.specs.Meaning.{feedIn, diagramIn, heldBy, heldIn, carriedFor, keptFor, haveFor}
-use Rattle.bursts.specs.Judging.{burstVerdict}
+use Rattle.kept_state.specs.Meaning.{feedMeant, diagramMeant, heldBy, heldMeant, carriedFor, keptFor, haveFor}
+use Rattle.judging.specs.Judging.{burstVerdict}
 use Rattle.bursts.specs.Burst.{runFrom, settledFrom, burstBytes, burstAdded, burstState, closeJudged, closeAdded, closeState, summaryIn, refuses, atStart, burstCall, closeCall, Replies}
-use Rattle.bursts.specs.Coded.{Means, Fits, progressed}
-use Rattle.bursts.proofs.Storing.{bits-count, held-tens, few-in}
-use Rattle.bursts.proofs.Checks.{Fair, fair, Passed, passed-all}
-use Rattle.bursts.proofs.Coding.{carried-is, have-is}
+use Rattle.kept_state.specs.Coded.{WithinLimits, Means}
+use Rattle.advancing.specs.Coded.{SumsFit, progressed, closedWith}
+use Rattle.kept_state.proofs.Storing.{bits-count, held-tens, few-in}
+use Rattle.judging.proofs.Checks.{within-limits, Passed, passed-all}
+use Rattle.kept_state.proofs.Coding.{carried-is, have-is}
 
 -- whether a block is held, by the list
 held-have : (r : Receiver) → r .have ≡ haveFor (Loop.heldIn r)
@@ -54,8 +54,8 @@ module _ (s : State) (line room : List ℕ) (v : burstVerdict s (length line) (l
   passed = passed-all s (length line) (length room) v
 
   -- the state's numbers are in range
-  pub fine : Fair s
-  fine = fair s (passed .good)
+  pub fine : WithinLimits s
+  fine = within-limits s (passed .good)
 
   -- the line is short
   pub short : length line ≤ 825000
@@ -63,22 +63,22 @@ module _ (s : State) (line room : List ℕ) (v : burstVerdict s (length line) (l
 
   -- how many blocks are tested
   pub few-tested : 66 * length (runFrom s line .tested) ≤ s .carried .count + 8 * length line
-  unfolding runFrom feedIn
+  unfolding runFrom feedMeant
   few-tested =
       let n = bits-count (s .carried) in
-      omega (arith, tested-bits (feedIn s) (lineBits line) (omega (arith, n, fine .carried)), n, length-lineBits line)
+      omega (arith, tested-bits (feedMeant s) (lineBits line) (omega (arith, n, fine .carried)), n, length-lineBits line)
 
   -- how many of them are settled
   pub few-settled : length (settledFrom s line .judged) ≤ length (runFrom s line .tested) + 1
   unfolding settledFrom
   few-settled =
       omega
-      (arith, settle-count (diagramIn s) (heldIn s ++ runFrom s line .tested), length-append (heldIn s) (runFrom s line .tested), few-in (editionOf (s .edition)) (s .have) (s .held))
+      (arith, settle-count (diagramMeant s) (heldMeant s ++ runFrom s line .tested), length-append (heldMeant s) (runFrom s line .tested), few-in (editionOf (s .edition)) (s .have) (s .held))
 
   -- ten bytes each
   pub bytes-tens : length (burstBytes s line) ≡ 10 * length (settledFrom s line .judged)
   unfolding burstBytes settledFrom runFrom
-  bytes-tens = settle-tens (diagramIn s) (each-append (held-tens (editionOf (s .edition)) (s .have) (s .held)) (tens-run (feedIn s) (lineBits line)))
+  bytes-tens = settle-tens (diagramMeant s) (each-append (held-tens (editionOf (s .edition)) (s .have) (s .held)) (tens-run (feedMeant s) (lineBits line)))
 
   -- few blocks, few vectors
   pub tested-few : length (runFrom s line .tested) ≤ 100001
@@ -95,15 +95,15 @@ module _ (s : State) (line room : List ℕ) (v : burstVerdict s (length line) (l
     unfolding settledFrom
     settle-is =
         ap₂ (λ (d : Diagram.State) (h : List Tested). settle d (h ++ run (Loop.feedIn r) (lineBits line) .tested)) (m .state) (m .held)
-        ∙ ap (λ (z : Run). settle (diagramIn s) (heldIn s ++ z .tested)) run-is
+        ∙ ap (λ (z : Run). settle (diagramMeant s) (heldMeant s ++ z .tested)) run-is
 
     -- what it writes
-    written-is : written r line ≡ burstBytes s line
+    written-is : writtenBy r line ≡ burstBytes s line
     unfolding burstBytes
     written-is = ap (λ (z : Settled). bytesOf (z .judged)) settle-is
 
     -- fits the room
-    pub written-fits : length (written r line) ≤ length room
+    pub written-fits : length (writtenBy r line) ≤ length room
     written-fits = omega (arith, ap length written-is, bytes-tens, few-settled, few-tested, passed .fits)
 
     module _ (room₁ : List ℕ) (p : Progress) (e : Ends line room room₁ r p) where
@@ -131,7 +131,7 @@ module _ (s : State) (line room : List ℕ) (v : burstVerdict s (length line) (l
       added-is = λ i. record { counts = counts-are i; handed = handed-are i }
 
       -- no sum overflows
-      pub next-fits : Fits s (length line) p
+      pub next-fits : SumsFit s (length line) p
       next-fits =
           let f = fine in
           record {
@@ -193,23 +193,55 @@ module _ (s : State) (line room : List ℕ) (v : burstVerdict s (length line) (l
 start-length : (bytes room : List ℕ) → length bytes ≤ length room → length (atStart bytes room) ≡ length room
 start-length bytes room l = length-append bytes (drop (length bytes) room) ∙ omega (arith, length-drop (length bytes) room)
 
+-- how many vectors the closing call gives
+close-count : (s : State) → length (closeJudged s) ≡ cond (s .have) 1 0
+unfolding closeJudged heldBy judge
+close-count s = go (s .have)
+  where
+    go : (b : Bool) → length (judge (diagramMeant s) (heldBy (editionOf (s .edition)) b (s .held))) ≡ cond b 1 0
+    go true = refl
+    go false = refl
+
+-- the state after it
+closed-is : (s : State) (last : Handed) → last ≡ handedOf (closeJudged s) → closedWith s last ≡ closeState s
+unfolding closeState closeAdded
+closed-is s last e =
+    let v : cond (s .have) 1 0 ≡ length (closeJudged s) = sym (close-count s) in
+    λ i.
+    record {
+      closed = true;
+      bytes = s .bytes;
+      edition = s .edition;
+      lock = s .lock;
+      rate = s .rate;
+      history = s .history;
+      carried = s .carried;
+      skip = s .skip;
+      diagram = s .diagram;
+      have = false;
+      held = keptFor [];
+      counts = s .counts;
+      vectors = s .vectors + v i;
+      handed = plusHanded (s .handed) (e i);
+    }
+
 module _ (s : State) (room : List ℕ) (v : burstVerdict s 0 (length room) ≡ accepted) where
   -- what the checks say
   pub close-passed : Passed s 0 (length room)
   close-passed = passed-all s 0 (length room) v
 
-  close-fine : Fair s
-  close-fine = fair s (close-passed .good)
+  close-fine : WithinLimits s
+  close-fine = within-limits s (close-passed .good)
 
   -- at most one vector
   pub close-few : length (closeJudged s) ≤ 1
   unfolding closeJudged
-  close-few = omega (arith, judge-length (diagramIn s) (heldIn s), few-in (editionOf (s .edition)) (s .have) (s .held))
+  close-few = omega (arith, judge-length (diagramMeant s) (heldMeant s), few-in (editionOf (s .edition)) (s .have) (s .held))
 
   -- of ten bytes
   pub close-tens : length (bytesOf (closeJudged s)) ≡ 10 * length (closeJudged s)
   unfolding closeJudged
-  close-tens = judge-tens (diagramIn s) (held-tens (editionOf (s .edition)) (s .have) (s .held))
+  close-tens = judge-tens (diagramMeant s) (held-tens (editionOf (s .edition)) (s .have) (s .held))
 
   module _ (r : Receiver) (m : Means s r) where
     -- the bytes of the block held
@@ -240,12 +272,11 @@ module _ (s : State) (room : List ℕ) (v : burstVerdict s 0 (length room) ≡ a
 
     module _ (handed : Handed) (eh : handed ≡ heldHanded (r .have) noneHanded (r .state) (r .held) true) where
       -- no sum overflows
-      pub close-fits : (s .vectors ≤ 1000000) × HandedWithin 1000000 (s .handed) × HandedWithin 1000000 handed × (handed ≡ handedOf (closeJudged s))
+      pub close-fits : (s .vectors ≤ 1000000) × HandedWithin 1000000 (s .handed) × HandedWithin 1000000 handed
       close-fits = (
         omega (arith, close-fine .vectors),
         handed-wide (s .handed) 100000 1000000 (close-fine .handed) (omega arith),
         subst (HandedWithin 1000000) (sym (eh ∙ handed-last)) (handed-few (closeJudged s) 1000000 (omega (arith, close-few))),
-        eh ∙ handed-last,
       )
 
       added-last : record { counts = noCounts; handed = handed } ≡ closeAdded s
@@ -260,60 +291,14 @@ module _ (s : State) (room : List ℕ) (v : burstVerdict s 0 (length room) ≡ a
         pub close-length : length room₁ ≡ length room
         close-length = ap length room-last ∙ start-length (bytesOf (closeJudged s)) room (omega (arith, last-fits, ap length last-is))
 
-        pub close-is : (next : State) (alone : Bool) (counts : Counts) (z : Reply) → next ≡ closeState s → alone ≡ heldAlone (r .have) (r .state) (r .held) → counts ≡ noCounts
+        pub close-is : (next : State) (alone : Bool) (counts : Counts) (z : Reply) → next ≡ closedWith s handed → alone ≡ heldAlone (r .have) (r .state) (r .held) → counts ≡ noCounts
             → z .state ≡ next → answerOf (z .answer) ≡ received (summaryIn next alone) → z .added ≡ record { counts = counts; handed = handed } → Replies (closeCall s room) z room₁
         unfolding closeCall
         close-is next alone counts z en el ec es ea ed =
-            (rw v (es ∙ en), rw v (ea ∙ ap₂ (λ (x : State) (b : Bool). received (summaryIn x b)) en (el ∙ alone-last)), rw v (ed ∙ ap (λ (x : Counts). record { counts = x; handed = handed }) ec ∙ added-last), rw v room-last)
-
--- how many vectors it gives
-pub close-count : (s : State) → length (closeJudged s) ≡ cond (s .have) 1 0
-unfolding closeJudged heldBy judge
-close-count s = go (s .have)
-  where
-    go : (b : Bool) → length (judge (diagramIn s) (heldBy (editionOf (s .edition)) b (s .held))) ≡ cond b 1 0
-    go true = refl
-    go false = refl
-
--- the state after it
-pub closed-is : (s : State) (n : ℕ) (held : Kept) (handed last : Handed) → n ≡ cond (s .have) 1 0 → held ≡ keptFor [] → handed ≡ plusHanded (s .handed) last → last ≡ handedOf (closeJudged s)
-    → record {
-      closed = true;
-      bytes = s .bytes;
-      edition = s .edition;
-      lock = s .lock;
-      rate = s .rate;
-      history = s .history;
-      carried = s .carried;
-      skip = s .skip;
-      diagram = s .diagram;
-      have = false;
-      held = held;
-      counts = s .counts;
-      vectors = s .vectors + n;
-      handed = handed;
-    } ≡ closeState s
-unfolding closeState closeAdded
-closed-is s n held handed last en ek eh el =
-    let v : n ≡ length (closeJudged s) = en ∙ sym (close-count s) in
-    let w : handed ≡ plusHanded (s .handed) (handedOf (closeJudged s)) = eh ∙ ap (plusHanded (s .handed)) el in
-    λ i.
-    record {
-      closed = true;
-      bytes = s .bytes;
-      edition = s .edition;
-      lock = s .lock;
-      rate = s .rate;
-      history = s .history;
-      carried = s .carried;
-      skip = s .skip;
-      diagram = s .diagram;
-      have = false;
-      held = ek i;
-      counts = s .counts;
-      vectors = s .vectors + v i;
-      handed = w i;
-    }
+            let n : next ≡ closeState s = en ∙ closed-is s handed (eh ∙ handed-last) in
+            let a = ea ∙ ap₂ (λ (x : State) (b : Bool). received (summaryIn x b)) n (el ∙ alone-last) in
+            let d = ed ∙ ap (λ (x : Counts). record { counts = x; handed = handed }) ec ∙ added-last in
+            (rw v (es ∙ n), rw v a, rw v d, rw v room-last)
 
 -- ---- a refused call
 

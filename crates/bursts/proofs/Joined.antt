@@ -2,7 +2,7 @@
 use Prim.Native.Nat.{ℕ}
 use mathlib.Core.Path.{_≡_, sym, ap, _∙_}
 use mathlib.Core.List.{List, [], _∷_, _++_, append-assoc, append-nil, flatten}
-use Rattle.bursts.specs.declared.State.{State}
+use Rattle.kept_state.specs.declared.State.{State}
 use Rattle.bursts.specs.declared.Added.{Added}
 use Rattle.bursts.specs.Burst.{stateFresh, burstBytes, burstState, closeAdded, closeState}
 use Rattle.bursts.specs.Joined.{plusAdded, addedIn, stateOver, bytesOver, addedOver, Cut}

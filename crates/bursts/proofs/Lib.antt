@@ -1,8 +1,3 @@
-pub mod Plain
-pub mod Orderly
-pub mod Checks
-pub mod Storing
-pub mod Coding
 pub mod Going
 pub mod Reached
 pub mod Small
@@ -10,3 +5,4 @@ pub mod Sums
 pub mod Joined
 pub mod Calls
 pub mod Unique
+pub mod Demand1

@@ -21,15 +21,15 @@ use Rattle.receiving.specs.Answer.{summaryOf}
 use Rattle.receiving.specs.declared.Link.{Link}
 use Rattle.receiving.specs.declared.Counts.{Counts}
 use Rattle.receiving.specs.declared.Handed.{Handed}
-use Rattle.receiving.proofs.Each.{Each, each-append, each-held, run-keeps}
-use Rattle.receiving.proofs.Runs.{after, run-append}
+use Rattle.receiving.proofs.Each.{EachTested, each-append, each-held, run-keeps}
+use Rattle.receiving.proofs.Runs.{runBehind, run-append}
 use Rattle.receiving.proofs.Counted.{count-first, count-append, hand-first, hand-append}
 use Rattle.receiving.proofs.Settle.{settled, settle-append, settle-few, bytes-append, alone-settled}
-use Rattle.bursts.specs.declared.State.{State}
-use Rattle.bursts.specs.Meaning.{bitsIn, states, diagramBy, heldBy, keptFor, linkIn, feedIn, diagramIn, heldIn}
+use Rattle.kept_state.specs.declared.State.{State}
+use Rattle.kept_state.specs.Meaning.{bitsIn, states, diagramBy, heldBy, keptFor, linkMeant, feedMeant, diagramMeant, heldMeant}
 use Rattle.bursts.specs.Burst.{stateFresh, runFrom, settledFrom, burstBytes, burstAdded, burstState, closeJudged, closeAdded, closeState, summaryIn}
-use Rattle.bursts.proofs.Plain.{plains, plains-bytes, plains-handed, plains-length, plains-state, plains-held, judged-bytes, judged-handed, judged-length, judged-alone}
-use Rattle.bursts.proofs.Storing.{bits-back, bits-words, bits-count, line-words, diagram-back, Storable, stored-in, run-stored, held-back, settle-in, Stands, stands-run}
+use Rattle.kept_state.proofs.Stripped.{strippedAll, strippedAll-bytes, strippedAll-handed, strippedAll-length, strippedAll-state, strippedAll-held, judged-bytes, judged-handed, judged-length, judged-alone}
+use Rattle.kept_state.proofs.Storing.{bits-back, bits-words, bits-count, line-words, diagram-back, Storable, stored-in, run-stored, held-back, settle-in, Stands, stands-run}
 
 -- ---- what the state after a burst means
 
@@ -40,47 +40,47 @@ edition-kept f bits = run-keeps (λ (l : Link). l .edition ≡ f .link .edition)
 
 module _ (s : State) (line : List ℕ) (few : s .carried .count < 66) where
   -- the receiver that the state means
-  stands : Stands (feedIn s)
-  unfolding feedIn
+  stands : Stands (feedMeant s)
+  unfolding feedMeant
   stands = record { bits = bits-words (s .carried); few = rw bits-count few }
 
   -- .. and the one after the line
   pub end-stands : Stands (runFrom s line .end)
   unfolding runFrom
-  end-stands = stands-run (feedIn s) (line-words line) stands
+  end-stands = stands-run (feedMeant s) (line-words line) stands
 
   -- its edition
   end-edition : runFrom s line .end .link .edition ≡ editionOf (s .edition)
-  unfolding runFrom feedIn
-  end-edition = edition-kept (feedIn s) (lineBits line)
+  unfolding runFrom feedMeant
+  end-edition = edition-kept (feedMeant s) (lineBits line)
 
   -- its bits, skip and link
-  pub feed-next : feedIn (burstState s line) ≡ runFrom s line .end
-  unfolding feedIn burstState
+  pub feed-next : feedMeant (burstState s line) ≡ runFrom s line .end
+  unfolding feedMeant burstState
   feed-next =
       let b = bits-back (runFrom s line .end .bits) (end-stands .bits) (end-stands .few) in
       let l = runFrom s line .end .link in
       λ i. record { bits = b i; skip = runFrom s line .end .skip; link = record { edition = sym end-edition i; lock = l .lock; rate = l .rate; history = l .history } }
 
   -- its diagram
-  pub diagram-next : diagramIn (burstState s line) ≡ settledFrom s line .state
+  pub diagram-next : diagramMeant (burstState s line) ≡ settledFrom s line .state
   unfolding burstState
   diagram-next = diagram-back (settledFrom s line .state)
 
   -- its blocks are storable
-  pub blocks-stored : Each (Storable (editionOf (s .edition))) (heldIn s ++ runFrom s line .tested)
-  unfolding runFrom feedIn
-  blocks-stored = each-append (stored-in (editionOf (s .edition)) (s .have) (s .held)) (run-stored (editionOf (s .edition)) (feedIn s) (lineBits line) refl)
+  pub blocks-stored : EachTested (Storable (editionOf (s .edition))) (heldMeant s ++ runFrom s line .tested)
+  unfolding runFrom feedMeant
+  blocks-stored = each-append (stored-in (editionOf (s .edition)) (s .have) (s .held)) (run-stored (editionOf (s .edition)) (feedMeant s) (lineBits line) refl)
 
   -- its held block
-  pub held-next : heldIn (burstState s line) ≡ plains (settledFrom s line .held)
+  pub held-next : heldMeant (burstState s line) ≡ strippedAll (settledFrom s line .held)
   unfolding burstState settledFrom
-  held-next = held-back (editionOf (s .edition)) (each-held (diagramIn s) blocks-stored) (settle-few (diagramIn s) (heldIn s ++ runFrom s line .tested))
+  held-next = held-back (editionOf (s .edition)) (each-held (diagramMeant s) blocks-stored) (settle-few (diagramMeant s) (heldMeant s ++ runFrom s line .tested))
 
   -- its diagram's number is known
-  pub known-next : stateNumber (diagramIn s) < length (states (editionOf (s .edition))) → burstState s line .diagram < length (states (editionOf (s .edition)))
+  pub known-next : stateNumber (diagramMeant s) < length (states (editionOf (s .edition))) → burstState s line .diagram < length (states (editionOf (s .edition)))
   unfolding burstState settledFrom
-  known-next w = settle-in (editionOf (s .edition)) (diagramIn s) w blocks-stored
+  known-next w = settle-in (editionOf (s .edition)) (diagramMeant s) w blocks-stored
 
 -- ---- a state that is reached
 
@@ -95,11 +95,11 @@ module _ (edition : ℕ) where
   -- after this line, with these bytes handed out
   pub record At (line bytes : List ℕ) (s : State) : Type 0 where
     pub chosen : s .edition ≡ edition
-    pub feed : feedIn s ≡ runOf ed line .end
-    pub diagram : diagramIn s ≡ σ line .state
-    pub known : s .diagram ≡ stateNumber (diagramIn s)
-    pub states : stateNumber (diagramIn s) < length (states ed)
-    pub held : heldIn s ≡ plains (σ line .held)
+    pub feed : feedMeant s ≡ runOf ed line .end
+    pub diagram : diagramMeant s ≡ σ line .state
+    pub known : s .diagram ≡ stateNumber (diagramMeant s)
+    pub states : stateNumber (diagramMeant s) < length (states ed)
+    pub held : heldMeant s ≡ strippedAll (σ line .held)
     pub size : s .bytes ≡ length line
     pub counts : s .counts ≡ countsOf (runOf ed line .tested)
     pub vectors : s .vectors ≡ length (σ line .judged)
@@ -112,7 +112,7 @@ module _ (edition : ℕ) where
   first-known New = lit< tt
 
   pub at-first : At [] [] (stateFresh edition)
-  unfolding feedIn bitsIn listed lineBits number keptFor diagramBy heldBy runOf run settle countsOf howMany handedOf flatten
+  unfolding feedMeant bitsIn listed lineBits number keptFor diagramBy heldBy runOf run settle countsOf howMany handedOf flatten
   at-first =
       record {
         chosen = refl;
@@ -131,7 +131,7 @@ module _ (edition : ℕ) where
   module _ (line bytes : List ℕ) (s : State) (a : At line bytes s) where
     -- fewer than 66 bits are carried
     pub at-few : s .carried .count < 66
-    unfolding feedIn runOf
+    unfolding feedMeant runOf
     at-few =
         subst (λ (n : ℕ). n < 66) (sym (ap (λ (f : Feed). length (f .bits)) (a .feed)) ∙ bits-count (s .carried))
         (stands-run (at (linkFresh ed)) (line-words line) (record { bits = none; few = omega arith }) .few)
@@ -141,12 +141,12 @@ module _ (edition : ℕ) where
       rest = runFrom s more .tested
 
       -- the run over the joined line
-      run-next : runOf ed (line ++ more) ≡ after (runOf ed line .tested) (runFrom s more)
+      run-next : runOf ed (line ++ more) ≡ runBehind (runOf ed line .tested) (runFrom s more)
       unfolding runOf runFrom
       run-next =
           ap (run (at (linkFresh ed))) (lineBits-append line more)
           ∙ run-append (at (linkFresh ed)) (lineBits line) (lineBits more)
-          ∙ ap (λ (f : Feed). after (runOf ed line .tested) (run f (lineBits more))) (sym (a .feed))
+          ∙ ap (λ (f : Feed). runBehind (runOf ed line .tested) (run f (lineBits more))) (sym (a .feed))
 
       -- its blocks, settled: those of the line, and then the block held and those of the rest
       abbrev on : Settled
@@ -156,7 +156,7 @@ module _ (edition : ℕ) where
       settle-next = ap (λ (r : Run). settle Init (r .tested)) run-next ∙ settle-append Init (runOf ed line .tested) rest
 
       -- which the state gives, but for what was counted
-      from-state : settledFrom s more ≡ settle (σ line .state) (plains (σ line .held) ++ rest)
+      from-state : settledFrom s more ≡ settle (σ line .state) (strippedAll (σ line .held) ++ rest)
       unfolding settledFrom
       from-state = ap₂ (λ (d : Diagram.State) (h : List Tested). settle d (h ++ rest)) (a .diagram) (a .held)
 
@@ -164,13 +164,13 @@ module _ (edition : ℕ) where
       judged-next = ap (λ (z : Settled). z .judged) settle-next
 
       more-bytes : bytesOf (settledFrom s more .judged) ≡ bytesOf (on .judged)
-      more-bytes = ap (λ (z : Settled). bytesOf (z .judged)) from-state ∙ plains-bytes (σ line .state) (σ line .held) rest
+      more-bytes = ap (λ (z : Settled). bytesOf (z .judged)) from-state ∙ strippedAll-bytes (σ line .state) (σ line .held) rest
 
       more-handed : handedOf (settledFrom s more .judged) ≡ handedOf (on .judged)
-      more-handed = ap (λ (z : Settled). handedOf (z .judged)) from-state ∙ plains-handed (σ line .state) (σ line .held) rest
+      more-handed = ap (λ (z : Settled). handedOf (z .judged)) from-state ∙ strippedAll-handed (σ line .state) (σ line .held) rest
 
       more-length : length (settledFrom s more .judged) ≡ length (on .judged)
-      more-length = ap (λ (z : Settled). length (z .judged)) from-state ∙ plains-length (σ line .state) (σ line .held) rest
+      more-length = ap (λ (z : Settled). length (z .judged)) from-state ∙ strippedAll-length (σ line .state) (σ line .held) rest
 
       more-counts : plus (s .counts) (countsOf rest) ≡ countsOf (runOf ed (line ++ more) .tested)
       more-counts =
@@ -193,12 +193,12 @@ module _ (edition : ℕ) where
             feed = feed-next s more at-few ∙ ap (λ (r : Run). r .end) (sym run-next);
             diagram =
                 diagram-next s more at-few ∙ ap (λ (z : Settled). z .state) from-state
-                ∙ plains-state (σ line .state) (σ line .held) rest ∙ ap (λ (z : Settled). z .state) (sym settle-next);
+                ∙ strippedAll-state (σ line .state) (σ line .held) rest ∙ ap (λ (z : Settled). z .state) (sym settle-next);
             known = ap stateNumber (sym (diagram-next s more at-few));
             states = next-known;
             held =
-                held-next s more at-few ∙ ap (λ (z : Settled). plains (z .held)) from-state
-                ∙ plains-held (σ line .state) (σ line .held) rest ∙ ap (λ (z : Settled). plains (z .held)) (sym settle-next);
+                held-next s more at-few ∙ ap (λ (z : Settled). strippedAll (z .held)) from-state
+                ∙ strippedAll-held (σ line .state) (σ line .held) rest ∙ ap (λ (z : Settled). strippedAll (z .held)) (sym settle-next);
             size = ap (λ (n : ℕ). n + length more) (a .size) ∙ sym (length-append line more);
             counts = more-counts;
             vectors =
@@ -210,11 +210,11 @@ module _ (edition : ℕ) where
                 ∙ sym (bytes-append (σ line .judged) (on .judged)) ∙ ap bytesOf (sym judged-next);
           }
         where
-          next-known : stateNumber (diagramIn (burstState s more)) < length (states ed)
+          next-known : stateNumber (diagramMeant (burstState s more)) < length (states ed)
           next-known =
               subst (λ (n : ℕ). n < length (states ed)) (ap stateNumber (sym (diagram-next s more at-few)))
               (subst (λ (n : ℕ). burstState s more .diagram < length (states (editionOf n))) (a .chosen)
-              (known-next s more at-few (subst (λ (n : ℕ). stateNumber (diagramIn s) < length (states (editionOf n))) (sym (a .chosen)) (a .states))))
+              (known-next s more at-few (subst (λ (n : ℕ). stateNumber (diagramMeant s) < length (states (editionOf n))) (sym (a .chosen)) (a .states))))
 
     -- ---- the closing call
 
@@ -222,7 +222,7 @@ module _ (edition : ℕ) where
     abbrev last : List Judged
     last = judge (σ line .state) (σ line .held)
 
-    from-held : closeJudged s ≡ judge (σ line .state) (plains (σ line .held))
+    from-held : closeJudged s ≡ judge (σ line .state) (strippedAll (σ line .held))
     unfolding closeJudged
     from-held = ap₂ judge (a .diagram) (a .held)
 
@@ -262,9 +262,9 @@ module _ (edition : ℕ) where
 
     -- the last summary
     pub at-summary : summaryIn (closeState s) (judgedAlone (closeJudged s)) ≡ summaryOf ed line
-    unfolding summaryOf closeState closeAdded feedIn
+    unfolding summaryOf closeState closeAdded feedMeant
     at-summary =
-        let l : linkIn s ≡ runOf ed line .end .link = ap (λ (f : Feed). f .link) (a .feed) in
+        let l : linkMeant s ≡ runOf ed line .end .link = ap (λ (f : Feed). f .link) (a .feed) in
         let n = at-count ∙ vectors-count in
         λ i.
         record {

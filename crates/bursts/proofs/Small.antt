@@ -23,16 +23,16 @@ use Rattle.receiving.specs.Counted.{Within, HandedWithin}
 use Rattle.receiving.specs.Ranges.{InRange}
 use Rattle.receiving.specs.declared.Counts.{Counts}
 use Rattle.receiving.specs.declared.Handed.{Handed}
-use Rattle.receiving.proofs.Each.{Each, each-held, run-keeps}
+use Rattle.receiving.proofs.Each.{EachTested, each-held, run-keeps}
 use Rattle.receiving.proofs.Each as Each
 use Rattle.receiving.proofs.Counted.{counts-few, handed-few, within-wide, handed-wide}
 use Rattle.receiving.proofs.Ranges.{range-next}
-use Rattle.bursts.specs.declared.State.{State}
-use Rattle.bursts.specs.Meaning.{feedIn, diagramIn, kindNumber, fiveBytes, keptFor}
-use Rattle.bursts.specs.Judging.{burstVerdict}
+use Rattle.kept_state.specs.declared.State.{State}
+use Rattle.kept_state.specs.Meaning.{feedMeant, diagramMeant, heldKindNumber, fiveBytes, keptFor}
+use Rattle.judging.specs.Judging.{burstVerdict}
 use Rattle.bursts.specs.Burst.{stateFresh, runFrom, settledFrom, burstAdded, burstState, closeJudged, closeAdded, closeState}
-use Rattle.bursts.proofs.Storing.{Storable}
-use Rattle.bursts.proofs.Checks.{fair}
+use Rattle.kept_state.proofs.Storing.{Storable}
+use Rattle.judging.proofs.Checks.{within-limits}
 use Rattle.bursts.proofs.Going.{passed, fine, few-settled, tested-few, close-passed, close-few}
 use Rattle.bursts.proofs.Reached.{end-stands, blocks-stored}
 
@@ -62,7 +62,7 @@ pub record Small (s : State) : Type 0 where
 
 -- ---- the numbers of a held block, and of the diagram's state
 
-kind-lt : (k : Kind) → kindNumber k < 6
+kind-lt : (k : Kind) → heldKindNumber k < 6
 kind-lt D = lit< tt
 kind-lt C = lit< tt
 kind-lt S = lit< tt
@@ -73,7 +73,7 @@ kind-lt LI = lit< tt
 five-lt : (v : List ℕ) (p : ℕ) → ((n : ℕ) → getD v n 0 < 256) → fiveBytes v p < 2 ^ 64
 five-lt v p o = omega (arith, o p, o (p + 1), o (p + 2), o (p + 3), o (p + 4))
 
-kept-lt : (ed : Edition) {h : List Tested} → Each (Storable ed) h → (keptFor h .kind < 6) × (keptFor h .first < 2 ^ 64) × (keptFor h .second < 2 ^ 64)
+kept-lt : (ed : Edition) {h : List Tested} → EachTested (Storable ed) h → (keptFor h .kind < 6) × (keptFor h .first < 2 ^ 64) × (keptFor h .second < 2 ^ 64)
 unfolding keptFor
 kept-lt ed Each.none = (omega arith, omega arith, omega arith)
 kept-lt ed (Each.more {t} w r) = (kind-lt (kindIn (t .class)), five-lt (t .vector) 0 (w .octets), five-lt (t .vector) 5 (w .octets))
@@ -108,12 +108,12 @@ module _ (s : State) (line room : List ℕ) (v : burstVerdict s (length line) (l
   -- the block that is then held
   next-kept : (keptFor (settledFrom s line .held) .kind < 6) × (keptFor (settledFrom s line .held) .first < 2 ^ 64) × (keptFor (settledFrom s line .held) .second < 2 ^ 64)
   unfolding settledFrom
-  next-kept = kept-lt (editionOf (s .edition)) (each-held (diagramIn s) (blocks-stored s line (fine s line room v .carried)))
+  next-kept = kept-lt (editionOf (s .edition)) (each-held (diagramMeant s) (blocks-stored s line (fine s line room v .carried)))
 
   -- the link
   next-link : InRange (runFrom s line .end .link)
-  unfolding runFrom feedIn
-  next-link = run-keeps InRange (λ t. Unit) range-next (λ l h p o. tt) (feedIn s) (lineBits line) (fine s line room v .range)
+  unfolding runFrom feedMeant
+  next-link = run-keeps InRange (λ t. Unit) range-next (λ l h p o. tt) (feedMeant s) (lineBits line) (fine s line room v .range)
 
   -- the counts
   next-counts : Within largest (plus (s .counts) (countsOf (runFrom s line .tested)))
@@ -167,7 +167,7 @@ module _ (s : State) (line room : List ℕ) (v : burstVerdict s (length line) (l
 pub small-close : (s : State) (room : List ℕ) → burstVerdict s 0 (length room) ≡ accepted → Small s → Small (closeState s)
 unfolding closeState closeAdded keptFor
 small-close s room v w =
-    let f = fair s (close-passed s room v .good) in
+    let f = within-limits s (close-passed s room v .good) in
     record {
       bytes = w .bytes;
       edition = w .edition;

@@ -8,7 +8,7 @@ use Rattle.receiving.specs.Parts.{noCounts, plus, plusHanded}
 use Rattle.receiving.specs.declared.Counts.{Counts}
 use Rattle.receiving.specs.declared.Handed.{Handed}
 use Rattle.receiving.proofs.Counted.{count-end, count-first, hand-first}
-use Rattle.bursts.specs.declared.State.{State}
+use Rattle.kept_state.specs.declared.State.{State}
 use Rattle.bursts.specs.declared.Added.{Added}
 use Rattle.bursts.specs.Burst.{burstAdded, burstState, closeAdded, closeState}
 use Rattle.bursts.specs.Joined.{plusAdded, noneAdded, stateOver, addedOver}

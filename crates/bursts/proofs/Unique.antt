@@ -9,7 +9,7 @@ use Rattle.refusals.proofs.Laws.{number-injective}
 use Rattle.refusals.specs.Number.{numberOf}
 use Rattle.refusals.specs.declared.Refusal.{Refusal}
 use Rattle.reception.proofs.Unique.{answer-injective}
-use Rattle.bursts.specs.declared.State.{State}
+use Rattle.kept_state.specs.declared.State.{State}
 use Rattle.bursts.specs.declared.Reply.{Reply}
 use Rattle.bursts.specs.declared.Begun.{Begun}
 use Rattle.bursts.specs.declared.Begun.the-variants.{Fresh, Refused}

@@ -9,8 +9,8 @@ use Rattle.refusals.specs.First.{first, byVerdict}
 use Rattle.refusals.specs.Number.{numberOf}
 use Rattle.block.specs.Block.{editionCheck}
 use Rattle.diagrams.specs.Diagram.{stateNumber}
-use Rattle.diagrams.specs.Lock.{lockFresh}
-use Rattle.diagrams.specs.Rate.{rateFresh}
+use Rattle.lock.specs.Lock.{lockFresh}
+use Rattle.lock.specs.Rate.{rateFresh}
 use Rattle.diagrams.specs.declared.State.the-variants.{Init}
 use Rattle.receiving.specs.Machine.{Run, run}
 use Rattle.receiving.specs.Receive.{Judged, judge, judgedAlone, countsOf, handedOf}
@@ -18,13 +18,13 @@ use Rattle.receiving.specs.Parts.{noCounts, plus, noneHanded, plusHanded, Settl
 use Rattle.receiving.specs.Answer.{ReceiveAnswer, received, answerOf}
 use Rattle.receiving.specs.Answer as Answer
 use Rattle.receiving.specs.declared.Summary.{Summary}
-use Rattle.bursts.specs.declared.State.{State}
+use Rattle.kept_state.specs.declared.State.{State}
 use Rattle.bursts.specs.declared.Added.{Added}
 use Rattle.bursts.specs.declared.Reply.{Reply}
 use Rattle.bursts.specs.declared.Begun.{Begun}
 use Rattle.bursts.specs.declared.Begun.the-variants as Begin
-use Rattle.bursts.specs.Meaning.{feedIn, diagramIn, heldIn, carriedFor, keptFor, haveFor}
-use Rattle.bursts.specs.Judging.{burstVerdict}
+use Rattle.kept_state.specs.Meaning.{feedMeant, diagramMeant, heldMeant, carriedFor, keptFor, haveFor}
+use Rattle.judging.specs.Judging.{burstVerdict}
 
 -- ---- a fresh state, "chosen with" its edition (document 02, 9/13), by the edition's number
 
@@ -67,11 +67,11 @@ Begins edition r = begunOf r ≡ beginAnswer edition
 -- ---- a burst that is accepted: the receiver goes on where it stands
 
 unfoldable pub runFrom : State → List ℕ → Run
-runFrom s line = run (feedIn s) (lineBits line)
+runFrom s line = run (feedMeant s) (lineBits line)
 
 -- its blocks in their states, but for the last, which is held until the next is tested
 unfoldable pub settledFrom : State → List ℕ → Settled
-settledFrom s line = settle (diagramIn s) (heldIn s ++ runFrom s line .tested)
+settledFrom s line = settle (diagramMeant s) (heldMeant s ++ runFrom s line .tested)
 
 unfoldable pub burstBytes : State → List ℕ → List ℕ
 burstBytes s line = bytesOf (settledFrom s line .judged)
@@ -102,7 +102,7 @@ burstState s line =
 -- ---- "a closing call for the last vector": the end of the input
 
 unfoldable pub closeJudged : State → List Judged
-closeJudged s = judge (diagramIn s) (heldIn s)
+closeJudged s = judge (diagramMeant s) (heldMeant s)
 
 unfoldable pub closeAdded : State → Added
 closeAdded s = record { counts = noCounts; handed = handedOf (closeJudged s) }

@@ -13,10 +13,10 @@ use Rattle.receiving.specs.Answer.{ReceiveAnswer, received, summaryOf, answerOf
 use Rattle.receiving.specs.Answer as Answer
 use Rattle.receiving.specs.declared.Summary.{Summary}
 use Rattle.receiving.specs.declared.Received.{Received}
-use Rattle.bursts.specs.declared.State.{State}
+use Rattle.kept_state.specs.declared.State.{State}
 use Rattle.bursts.specs.declared.Added.{Added}
 use Rattle.bursts.specs.declared.Reply.{Reply}
-use Rattle.bursts.specs.Judging.{badState, roomFor, burstVerdict}
+use Rattle.judging.specs.Judging.{badState, roomFor, burstVerdict}
 use Rattle.bursts.specs.Burst.{stateFresh, begun, beginAnswer, burstBytes, burstAdded, burstState, closeJudged, closeAdded, closeState, summaryIn, Called, atStart, burstCall, closeCall, Replies}
 
 -- what two calls added
@@ -80,29 +80,29 @@ Follow s (m ∷ ms) = Replies (callOf s (m .call)) (m .reply) (m .room) × Follo
 
 -- what a caller then has: the state; the line bytes that were taken; the vectors, as many of each call as its state counts more; and what
 -- was added
-abbrev pub takenOf : Call → ReceiveAnswer → List ℕ
-takenOf (burst line room) (received summary) = line
-takenOf (burst line room) (Answer.refused number place) = []
-takenOf (close room) answer = []
+abbrev pub takenBy : Call → ReceiveAnswer → List ℕ
+takenBy (burst line room) (received summary) = line
+takenBy (burst line room) (Answer.refused number place) = []
+takenBy (close room) answer = []
 
 abbrev pub givenBy : State → Reply → (room : List ℕ) → List ℕ
 givenBy s r room = take (10 * (r .state .vectors - s .vectors)) room
 
-unfoldable pub stateAfter : State → List Made → State
-stateAfter s [] = s
-stateAfter s (m ∷ ms) = stateAfter (m .reply .state) ms
+unfoldable pub stateAfterCalls : State → List Made → State
+stateAfterCalls s [] = s
+stateAfterCalls s (m ∷ ms) = stateAfterCalls (m .reply .state) ms
 
-unfoldable pub lineAfter : List Made → List ℕ
-lineAfter [] = []
-lineAfter (m ∷ ms) = takenOf (m .call) (answerOf (m .reply .answer)) ++ lineAfter ms
+unfoldable pub lineAfterCalls : List Made → List ℕ
+lineAfterCalls [] = []
+lineAfterCalls (m ∷ ms) = takenBy (m .call) (answerOf (m .reply .answer)) ++ lineAfterCalls ms
 
-unfoldable pub bytesAfter : State → List Made → List ℕ
-bytesAfter s [] = []
-bytesAfter s (m ∷ ms) = givenBy s (m .reply) (m .room) ++ bytesAfter (m .reply .state) ms
+unfoldable pub bytesAfterCalls : State → List Made → List ℕ
+bytesAfterCalls s [] = []
+bytesAfterCalls s (m ∷ ms) = givenBy s (m .reply) (m .room) ++ bytesAfterCalls (m .reply .state) ms
 
-unfoldable pub addedAfter : List Made → Added
-addedAfter [] = noneAdded
-addedAfter (m ∷ ms) = plusAdded (m .reply .added) (addedAfter ms)
+unfoldable pub addedAfterCalls : List Made → Added
+addedAfterCalls [] = noneAdded
+addedAfterCalls (m ∷ ms) = plusAdded (m .reply .added) (addedAfterCalls ms)
 
 -- A line in bursts: a fresh state, any calls, and an accepted closing call; of them all, the line bytes that were taken, the vectors' bytes
 -- joined, and the last summary
@@ -114,10 +114,10 @@ pub record InBursts (edition : ℕ) (line bytes : List ℕ) (last : Summary) : T
   pub room : List ℕ
   pub reply : Reply
   pub left : List ℕ
-  pub closes : Replies (closeCall (stateAfter fresh calls) room) reply left
+  pub closes : Replies (closeCall (stateAfterCalls fresh calls) room) reply left
   pub ends : answerOf (reply .answer) ≡ received last
-  pub whole : lineAfter calls ≡ line
-  pub joined : bytesAfter fresh calls ++ givenBy (stateAfter fresh calls) reply left ≡ bytes
+  pub whole : lineAfterCalls calls ≡ line
+  pub joined : bytesAfterCalls fresh calls ++ givenBy (stateAfterCalls fresh calls) reply left ≡ bytes
 
 -- the vectors and the last summary are those of the joined line; so what "Demands 2 and 3" say of them, "read over the joined line", holds
 abbrev pub AsOne : Type 0
@@ -130,19 +130,19 @@ abbrev pub Whole : Type 0
 Whole =
     (edition : ℕ) (line bytes : List ℕ) (last : Summary) (b : InBursts edition line bytes last)
     → (room room′ : List ℕ) (one : Received) → Receives edition line room one room′ → 10 * (8 * length line / 66) ≤ length room
-    → (answerOf one ≡ received last) × (room′ ≡ atStart bytes room) × (plusAdded (addedAfter (b .calls)) (b .reply .added) ≡ addedIn last)
+    → (answerOf one ≡ received last) × (room′ ≡ atStart bytes room) × (plusAdded (addedAfterCalls (b .calls)) (b .reply .added) ≡ addedIn last)
 
 -- "a handed-in state .. and given for nothing else": what a fresh state leads to is never refused with 10, and has its edition
 abbrev pub NeverBad : Type 0
 NeverBad =
     (edition : ℕ) (s : State) → beginAnswer edition ≡ begun s → (ms : List Made) → Follow s ms
-    → (badState (stateAfter s ms) ≡ false) × (stateAfter s ms .edition ≡ edition)
+    → (badState (stateAfterCalls s ms) ≡ false) × (stateAfterCalls s ms .edition ≡ edition)
 
 -- "may be sent again with more room": before an accepted closing call, any call is accepted whose bytes keep the sum within the limit and that
 -- is lent the room that is asked for. Its state is that after the accepted calls, whatever was refused between them.
 abbrev pub Accepts : Type 0
 Accepts =
     (edition : ℕ) (s : State) → beginAnswer edition ≡ begun s
-    → (ms : List Made) → Follow s ms → stateAfter s ms .closed ≡ false
-    → (line room : ℕ) → length (lineAfter ms) + line ≤ 825000 → roomFor (stateAfter s ms) line ≤ room
-    → burstVerdict (stateAfter s ms) line room ≡ accepted
+    → (ms : List Made) → Follow s ms → stateAfterCalls s ms .closed ≡ false
+    → (line room : ℕ) → length (lineAfterCalls ms) + line ≤ 825000 → roomFor (stateAfterCalls s ms) line ≤ room
+    → burstVerdict (stateAfterCalls s ms) line room ≡ accepted

@@ -1,5 +1,4 @@
-pub mod Meaning
-pub mod Judging
 pub mod Burst
 pub mod Joined
 pub mod Coded
+pub mod Demand1

@@ -1,2 +1,3 @@
 pub mod Recorded
 pub mod Unique
+pub mod Demand1

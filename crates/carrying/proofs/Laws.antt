@@ -9,7 +9,7 @@ use lib.ListN.{length, getD, take, drop}
 use Rattle.bits.specs.Bits.{bit, number, listed, lineBit, lineBits}
 use Rattle.bits.proofs.Laws.{number-same}
 use Rattle.bits.proofs.Lists.{length-listed, listed-at, part-lineBits, length-lineBits}
-use Rattle.line.specs.Word.{word}
+use Rattle.line.specs.BlockNumber.{blockNumber}
 use Rattle.line.specs.declared.Block.{Block}
 use Rattle.line.proofs.Laws.{header-number, payload-number}
 use Rattle.carrying.specs.Carrying.{wordOf, carriedBits, Sound, blockBits, Fills, Takes}
@@ -66,9 +66,9 @@ module _ (line : List ℕ) (pos : ℕ) (c : Carried) where
 
   -- n line bits, with those carried
   module _ (sound : Sound c) (n : ℕ) (room : pos + n ≤ 8 * length line) (n-le : c .count + n ≤ 66) (more : Block) (head : more .header < 4)
-      (joins : word more ≡ wordOf c + number (66 - c .count) (onward line pos) * 2 ^ c .count) (t : Taken) (next : t .next ≡ pos + n) where
+      (joins : blockNumber more ≡ wordOf c + number (66 - c .count) (onward line pos) * 2 ^ c .count) (t : Taken) (next : t .next ≡ pos + n) where
     -- the bits of the block's word
-    pub more-bits : blockBits B pos c t ≡ listed (c .count + n) (bit (word more))
+    pub more-bits : blockBits B pos c t ≡ listed (c .count + n) (bit (blockNumber more))
     unfolding carriedBits
     more-bits =
         let e : t .next - pos ≡ n = omega arith in
@@ -78,7 +78,7 @@ module _ (line : List ℕ) (pos : ℕ) (c : Carried) where
         ∙ ap (λ (w : ℕ). listed (c .count + n) (bit w)) (sym joins)
 
     -- where they are the line's last, no other bit is set
-    pub more-fits : 8 * length line ≤ pos + n → word more < 2 ^ (c .count + n)
+    pub more-fits : 8 * length line ≤ pos + n → blockNumber more < 2 ^ (c .count + n)
     more-fits last =
         let f = onward line pos in
         let e : 66 - c .count ≡ n + (66 - c .count - n) = omega arith in
@@ -90,16 +90,16 @@ module _ (line : List ℕ) (pos : ℕ) (c : Carried) where
     pub fills-last : c .count + n ≡ 66 → more .payload < 2 ^ 64 → t .header ≡ more .header → t .payload ≡ more .payload
         → carriedBits (t .carried) ≡ [] → Fills B pos false c t
     fills-last full pb eh ep en =
-        let bits : blockBits B pos c t ≡ listed 66 (bit (word more)) = more-bits ∙ ap (λ (k : ℕ). listed k (bit (word more))) full in
+        let bits : blockBits B pos c t ≡ listed 66 (bit (blockNumber more)) = more-bits ∙ ap (λ (k : ℕ). listed k (bit (blockNumber more))) full in
         record {
           kept = refl;
-          whole = ap length bits ∙ length-listed 66 (bit (word more));
+          whole = ap length bits ∙ length-listed 66 (bit (blockNumber more));
           header =
               eh ∙ sym (header-number (more .header) (more .payload) head)
-              ∙ number-same 2 _ _ (λ i l. sym (ap (λ (x : List ℕ). getD x i 0) bits ∙ listed-at 66 (bit (word more)) i (omega arith)));
+              ∙ number-same 2 _ _ (λ i l. sym (ap (λ (x : List ℕ). getD x i 0) bits ∙ listed-at 66 (bit (blockNumber more)) i (omega arith)));
           payload =
               ep ∙ sym (payload-number (more .header) (more .payload) head pb)
-              ∙ number-same 64 _ _ (λ i l. sym (ap (λ (x : List ℕ). getD x (2 + i) 0) bits ∙ listed-at 66 (bit (word more)) (2 + i) (omega arith)));
+              ∙ number-same 64 _ _ (λ i l. sym (ap (λ (x : List ℕ). getD x (2 + i) 0) bits ∙ listed-at 66 (bit (blockNumber more)) (2 + i) (omega arith)));
           none = en;
         }
 
@@ -136,7 +136,7 @@ module _ (line : List ℕ) (pos : ℕ) (c : Carried) (here : pos < 8 * length li
       }
 
   module _ (sound : Sound c) (n : ℕ) (some : 0 < n) (room : pos + n ≤ 8 * length line) (more : Block) (head : more .header < 4)
-      (joins : word more ≡ wordOf c + number (66 - c .count) (onward line pos) * 2 ^ c .count) (en : t .next ≡ pos + n) where
+      (joins : blockNumber more ≡ wordOf c + number (66 - c .count) (onward line pos) * 2 ^ c .count) (en : t .next ≡ pos + n) where
     -- the line's last bits wait
     pub takes-rest : t .full ≡ false → t .carried ≡ record { count = c .count + n; header = more .header; payload = more .payload }
         → c .count + n < 66 → 8 * length line ≤ pos + n → Takes (lineBits line) pos false c t

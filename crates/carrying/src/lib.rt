@@ -5,10 +5,10 @@ use line::header_at;
 use line::wide;
 ghost use mathlib.Core.Path.{_≡_};
 ghost use mathlib.Core.Bool.{false};
-ghost use Prim.Native.Nat.{ℕ, _+_, _-_, _*_, _^_, _<_, _≤_};
+ghost use Prim.Native.Nat.{_+_, _-_, _*_, _^_, _<_, _≤_};
 ghost use lib.ListN.{length};
 ghost use Rattle.bits.specs.Bits.{number, lineBit, lineBits};
-ghost use Rattle.line.specs.Word.{word};
+ghost use Rattle.line.specs.BlockNumber.{blockNumber};
 ghost use Rattle.carrying.specs.Carrying.{wordOf, Sound, Takes};
 
 // The bits since the last tested block, fewer than 66: the header's two, then the payload's, each with the first bit lowest.
@@ -65,7 +65,7 @@ fn bits_from(line: &[u8], pos: usize) -> u64
 // The block that starts with the carried bits and goes on with the line bits from bit pos on; past the line's end they are zeros.
 fn join(line: &[u8], pos: usize, c: Carried) -> Block
     requires { ⌜ (pos < 8 * length (now line)) × (length (now line) ≤ 825000) × Sound c ⌝ }
-    ensures { λ r. ⌜ (r .header < 4) × (word r ≡ wordOf c + number (66 - c .count) (λ i. lineBit (now (line .entry)) (pos + i)) * 2 ^ c .count) ⌝ }
+    ensures { λ r. ⌜ (r .header < 4) × (blockNumber r ≡ wordOf c + number (66 - c .count) (λ i. lineBit (now (line .entry)) (pos + i)) * 2 ^ c .count) ⌝ }
 {
     let more = bits_from(line, pos);
     if c.count < 2 {

@@ -118,12 +118,12 @@ answer-at s (t ∷ ts) z zero l o = rw o (step (t .vector) s (kindIn (t .class))
 answer-at s (t ∷ ts) z (suc k) l o = answer-at (stateOf s t (ends ts)) ts z k (omega arith) o
 
 -- a tested block has the kind and the vector of a block with this header and payload
-abbrev pub Read : Edition → (header payload : ℕ) → Tested → Type 0
-Read ed header payload t = (kindIn (t .class) ≡ kindOf ed header payload) × (t .vector ≡ decoded ed header payload)
+abbrev pub TestedAs : Edition → (header payload : ℕ) → Tested → Type 0
+TestedAs ed header payload t = (kindIn (t .class) ≡ kindOf ed header payload) × (t .vector ≡ decoded ed header payload)
 
 -- block k of a line is tested with its header and its descrambled payload
 pub tested-at : (l : Link) (bs : List Block) (b : Block) (z : Tested) (k : ℕ) → k < length bs
-    → Read (l .edition) (getD bs k b .header) (getD (descrambledAll (payloads bs) (l .history)) k 0) (getD (testedAll l bs) k z)
+    → TestedAs (l .edition) (getD bs k b .header) (getD (descrambledAll (payloads bs) (l .history)) k 0) (getD (testedAll l bs) k z)
 unfolding testedAll testedOf linkOf descrambledAll
 tested-at l [] b z k m = absurd (omega arith)
 tested-at l (c ∷ bs) b z zero m = (kind-tested l (c .header) (c .payload), refl)

@@ -8,8 +8,8 @@ use Rattle.bits.specs.Bits.{bit, number, streamBit, cut, lineBit}
 use Rattle.bits.proofs.Laws.{bit-above, bit-below, by-lt, bit-number, number-lt, number-same, stream-lt, stream-cut, length-cut, cut-same}
 use Rattle.register.specs.Register.{flip}
 use Rattle.line.specs.declared.Block.{Block}
-use Rattle.line.specs.Word.{word}
-use Rattle.demands.proofs.Line.{Fits, AllFit}
+use Rattle.line.specs.BlockNumber.{blockNumber}
+use Rattle.demands.proofs.Line.{BlockFits, AllFit}
 use Rattle.damage.specs.Damage.{damaged, payloadBit}
 
 -- a flipped bit is a bit
@@ -73,15 +73,15 @@ flipped-fits f (b ∷ bs) = (
 
 module _ (b : Block) (fits : b .header < 4) where
   -- the word in its two parts
-  parts : word b ≡ b .payload * 2 ^ 2 + b .header
+  parts : blockNumber b ≡ b .payload * 2 ^ 2 + b .header
   parts = omega arith
 
   -- its first two bits are the header
-  word-header : (i : ℕ) → i < 2 → bit (word b) i ≡ bit (b .header) i
+  word-header : (i : ℕ) → i < 2 → bit (blockNumber b) i ≡ bit (b .header) i
   word-header i l = ap (λ (x : ℕ). bit x i) parts ∙ bit-below (b .payload) 2 (b .header) i l
 
   -- and the rest the payload
-  word-payload : (i : ℕ) → bit (word b) (2 + i) ≡ bit (b .payload) i
+  word-payload : (i : ℕ) → bit (blockNumber b) (2 + i) ≡ bit (b .payload) i
   word-payload i = ap (λ (x : ℕ). bit x (2 + i)) parts ∙ bit-above (b .payload) 2 (b .header) i fits
 
 module _ (f : ℕ → ℕ) (b : Block) where
@@ -93,7 +93,7 @@ module _ (f : ℕ → ℕ) (b : Block) where
   flipped-payload i l =
       bit-number 64 (flip (bit (b .payload)) (λ i. f (2 + i))) (λ i l. flip-lt (bit (b .payload)) (λ i. f (2 + i)) i) i l
 
-  flipped-word : Fits b → (i : ℕ) → i < 66 → bit (word (flippedBlock f b)) i ≡ flip (bit (word b)) f i
+  flipped-word : BlockFits b → (i : ℕ) → i < 66 → bit (blockNumber (flippedBlock f b)) i ≡ flip (bit (blockNumber b)) f i
   unfolding flip
   flipped-word fits i l =
       by-lt i 2
@@ -102,9 +102,9 @@ module _ (f : ℕ → ℕ) (b : Block) where
       ∙ ap (λ (x : ℕ). (x + f i) % 2) (sym (word-header b (fits .0) i m)))
       (λ m.
       let e : i ≡ 2 + (i - 2) = omega arith in
-      ap (bit (word (flippedBlock f b))) e ∙ word-payload (flippedBlock f b) small (i - 2) ∙ flipped-payload (i - 2) (omega arith)
+      ap (bit (blockNumber (flippedBlock f b))) e ∙ word-payload (flippedBlock f b) small (i - 2) ∙ flipped-payload (i - 2) (omega arith)
       ∙ ap (λ (x : ℕ). (x + f (2 + (i - 2))) % 2) (sym (word-payload b (fits .0) (i - 2)))
-      ∙ ap (flip (bit (word b)) f) (sym e))
+      ∙ ap (flip (bit (blockNumber b)) f) (sym e))
     where
       small : flippedBlock f b .header < 4
       small = number-lt 2 (flip (bit (b .header)) f) (λ i l. flip-lt (bit (b .header)) f i)
@@ -118,7 +118,7 @@ map-at g (b ∷ bs) z zero l = refl
 map-at g (b ∷ bs) z (suc k) l = map-at g bs z k (omega arith)
 
 -- block k of blocks that fit
-fits-at : (bs : List Block) (z : Block) → AllFit bs → (k : ℕ) → k < length bs → Fits (getD bs k z)
+fits-at : (bs : List Block) (z : Block) → AllFit bs → (k : ℕ) → k < length bs → BlockFits (getD bs k z)
 fits-at [] z fits k l = absurd (omega arith)
 fits-at (b ∷ bs) z fits zero l = fits .0
 fits-at (b ∷ bs) z fits (suc k) l = fits-at bs z (fits .1) k (omega arith)
@@ -134,14 +134,14 @@ flipped-map g f bs k l = map-at g (flippedBlocks f bs) none k (omega (arith, fli
 
 -- the line bits of the blocks are flipped
 flipped-words : (f : ℕ → ℕ) (bs : List Block) → AllFit bs → (n : ℕ) → n < 66 * length bs
-    → streamBit 66 (map word (flippedBlocks f bs)) n ≡ flip (streamBit 66 (map word bs)) f n
+    → streamBit 66 (map blockNumber (flippedBlocks f bs)) n ≡ flip (streamBit 66 (map blockNumber bs)) f n
 unfolding streamBit flip
 flipped-words f bs fits n l =
     let m : n / 66 < length bs = omega arith in
     let e : 66 * (n / 66) + n % 66 ≡ n = omega arith in
-    ap (λ (x : ℕ). bit x (n % 66)) (flipped-map word f bs (n / 66) m)
+    ap (λ (x : ℕ). bit x (n % 66)) (flipped-map blockNumber f bs (n / 66) m)
     ∙ flipped-word (λ i. f (66 * (n / 66) + i)) (getD bs (n / 66) none) (fits-at bs none fits (n / 66) m) (n % 66) (omega arith)
-    ∙ ap₂ (λ (x y : ℕ). (bit x (n % 66) + f y) % 2) (sym (map-at word bs none (n / 66) m)) e
+    ∙ ap₂ (λ (x y : ℕ). (bit x (n % 66) + f y) % 2) (sym (map-at blockNumber bs none (n / 66) m)) e
 
 -- their payload bits are flipped where the payload bits of the line are
 pub flipped-payloads : (f : ℕ → ℕ) (bs : List Block) (n : ℕ) → n < 64 * length bs
@@ -156,12 +156,12 @@ flipped-payloads f bs n l =
 
 -- a damaged line is the line of its blocks with their flips
 pub damaged-line : (f : ℕ → ℕ) (bs : List Block) (groups : ℕ) → AllFit bs → length bs ≡ 4 * groups
-    → damaged (cut 8 (streamBit 66 (map word bs)) (33 * groups)) f ≡ cut 8 (streamBit 66 (map word (flippedBlocks f bs))) (33 * groups)
+    → damaged (cut 8 (streamBit 66 (map blockNumber bs)) (33 * groups)) f ≡ cut 8 (streamBit 66 (map blockNumber (flippedBlocks f bs))) (33 * groups)
 unfolding damaged flip lineBit
 damaged-line f bs groups fits e =
-    let line = cut 8 (streamBit 66 (map word bs)) (33 * groups) in
-    ap (cut 8 (flip (lineBit line) f)) (length-cut 8 (33 * groups) (streamBit 66 (map word bs)))
-    ∙ cut-same 8 (33 * groups) (flip (lineBit line) f) (streamBit 66 (map word (flippedBlocks f bs)))
+    let line = cut 8 (streamBit 66 (map blockNumber bs)) (33 * groups) in
+    ap (cut 8 (flip (lineBit line) f)) (length-cut 8 (33 * groups) (streamBit 66 (map blockNumber bs)))
+    ∙ cut-same 8 (33 * groups) (flip (lineBit line) f) (streamBit 66 (map blockNumber (flippedBlocks f bs)))
     (λ n l.
-    ap (λ (x : ℕ). (x + f n) % 2) (stream-cut 8 (omega arith) (33 * groups) (streamBit 66 (map word bs)) (stream-lt 66 (map word bs)) n l)
+    ap (λ (x : ℕ). (x + f n) % 2) (stream-cut 8 (omega arith) (33 * groups) (streamBit 66 (map blockNumber bs)) (stream-lt 66 (map blockNumber bs)) n l)
     ∙ sym (flipped-words f bs fits n (omega arith)))

@@ -6,12 +6,10 @@ use native.Mathlib.Omega.{arith}
 use lib.Dec.{T}
 use lib.ListN.{length, getD, take, drop}
 use lib.Seq.{take-at, drop-at}
-use borrow.Author.Tests.{le-ltb}
-use Rattle.sending.proofs.Laws.{length-vectors}
-use Rattle.bits.specs.Bits.{streamBit, lineBit}
+use Rattle.transmit.proofs.Laws.{length-vectors}
+use Rattle.bits.specs.Bits.{lineBit}
 use Rattle.bits.proofs.Laws.{length-cut}
 use Rattle.register.specs.Register.{flip}
-use Rattle.scrambler.specs.Scrambler.{mirror}
 use Rattle.line.specs.declared.Block.{Block}
 use Rattle.block.specs.Block.{editionOf}
 use Rattle.block.proofs.Tests.{all}
@@ -20,8 +18,7 @@ use Rattle.block.proofs.Near.{apart}
 use Rattle.diagrams.specs.declared.State.{State}
 use Rattle.diagrams.specs.declared.State.the-variants.{Init, Control, Data, Terminate, Error, LowPower}
 use Rattle.refusals.specs.First.{Verdict, first, accepted, byVerdict}
-use Rattle.sending.specs.Send.{vectorsIn, errorBlock, lineWords, blocksFor, sentLine}
-use Rattle.sending.specs.Answer as Sending
+use Rattle.transmit.specs.Send.{vectorsIn, errorBlock, blocksFor, sentLine}
 use Rattle.sending.specs.Answer.{Sends}
 use Rattle.sending.specs.declared.Sending.{Sending}
 use Rattle.sending.specs.declared.Sent.the-variants as Sent
@@ -31,37 +28,13 @@ use Rattle.receiving.specs.Answer as Receiving
 use Rattle.receiving.specs.Answer.{Receives}
 use Rattle.receiving.specs.declared.Link.{Link}
 use Rattle.receiving.specs.declared.Received.{Received}
-use Rattle.demands.specs.Words.{accepts, Unbroken}
-use Rattle.demands.specs.Demand1.{Outcome, succeeds, refuses}
-use Rattle.demands.proofs.Demand1.{none-is, demand-1-of-send}
+use Rattle.demands.specs.Words.{SendAccepts, Unbroken}
 use Rattle.demands.proofs.Runs.{testedAll}
 use Rattle.demands.proofs.Accepted.{known, not-long}
+use Rattle.demands.proofs.Calls.{done-accepts, length-sent, line-stands, received-too}
 use Rattle.damage.specs.Damage.{damaged, Flips}
 use Rattle.damage.specs.Demand3.{mostFlips, Answered, Survived, lineIn, Demand3OfCalls}
 use Rattle.damage.proofs.Demand3.{tested, vectors-tested, outlived, more-apart}
-
--- ---- what `send` left
-
--- Success means that the list was accepted, and that its line stands at the start of the room.
-sent-stands : (edition : ℕ) (bytes : List ℕ) (start : ℕ) (room room′ : List ℕ) (s : Sending) → Sends edition bytes start room (Sent.Done s) room′
-    → accepts edition bytes start (length room) × (lineIn room′ bytes ≡ sentLine (editionOf edition) bytes start)
-unfolding sentLine
-sent-stands edition bytes start room room′ s sends = go (demand-1-of-send edition bytes start room (Sent.Done s) room′ sends)
-  where
-    go : Outcome {A = Sending.SendAnswer × List ℕ} (Sending.sendChecks edition bytes start (length room))
-        (Sending.answerOf (Sent.Done s), room′)
-        (Sending.sentFor (editionOf edition) bytes start, sentLine (editionOf edition) bytes start ++ drop (length (sentLine (editionOf edition) bytes start)) room)
-        (λ number place. (Sending.refused number place, room))
-        → accepts edition bytes start (length room) × (lineIn room′ bytes ≡ sentLine (editionOf edition) bytes start)
-    go (succeeds none e) = (
-      none-is (Sending.sendChecks edition bytes start (length room)) none,
-      ap (λ (p : Sending.SendAnswer × List ℕ). take (33 * (length bytes / 40)) (p .1)) e
-          ∙ take-at (sentLine (editionOf edition) bytes start) (drop (length (sentLine (editionOf edition) bytes start)) room) (33 * (length bytes / 40))
-          (length-cut 8 (33 * (length bytes / 40)) (streamBit 66 (lineWords (mirror start) (blocksFor (editionOf edition) bytes)))),
-    )
-    go (refuses number place why e) =
-        let a : Sending.answerOf (Sent.Done s) ≡ Sending.refused number place = ap (λ (p : Sending.SendAnswer × List ℕ). p .0) e in
-        absurd (let z : _≡_ {A = ℕ} 0 1 = cc in omega arith)
 
 -- ---- what `receive` leaves
 
@@ -95,11 +68,6 @@ vectors-in (v ∷ vs) rest w =
     ap₂ _∷_ (ap (take 10) e ∙ take-at v (flatten vs ++ rest) 10 (w .0))
     (ap (λ (bytes : List ℕ). vectorsIn (length vs) bytes) (ap (drop 10) e ∙ drop-at v (flatten vs ++ rest) 10 (w .0)) ∙ vectors-in vs rest (w .1))
 
--- a line of 825,000 bytes or fewer is received, where there is room for its vectors
-received-too : (edition line out : ℕ) → edition ≤ 1 → line ≤ 825000 → 10 * (8 * line / 66) ≤ out → first (Receiving.receiveChecks edition line out) ≡ accepted
-unfolding first Receiving.receiveChecks
-received-too edition line out known short enough = rw (le-ltb 1 edition known, le-ltb 825000 line short, le-ltb out (10 * (8 * line / 66)) enough)
-
 module _ (edition : ℕ) (line out : List ℕ) (r : Received) (out′ : List ℕ) (receives : Receives edition line out r out′)
     (ok : first (Receiving.receiveChecks edition (length line) (length out)) ≡ accepted) where
   -- what is then answered
@@ -127,11 +95,11 @@ module _ (edition most : ℕ) (far : T (all (apart (editionOf edition) most))) (
     (sends : Sends edition bytes start room (Sent.Done s) room′) (f : ℕ → ℕ) (flips : Flips most (lineIn room′ bytes) f) (out out′ : List ℕ) (r : Received)
     (receives : Receives edition (damaged (lineIn room′ bytes) f) out r out′) (enough : length bytes ≤ length out) where
   -- the list was accepted, and its line stands in the room
-  ok : accepts edition bytes start (length room)
-  ok = sent-stands edition bytes start room room′ s sends .0
+  ok : SendAccepts edition bytes start (length room)
+  ok = done-accepts edition bytes start (length room) s (sends .0)
 
   stands : lineIn room′ bytes ≡ sentLine (editionOf edition) bytes start
-  stands = sent-stands edition bytes start room room′ s sends .1
+  stands = line-stands edition bytes start room room′ s sends
 
   -- the flips, and what is received, are of the line that was sent
   flips-line : Flips most (sentLine (editionOf edition) bytes start) f
@@ -143,8 +111,7 @@ module _ (edition most : ℕ) (far : T (all (apart (editionOf edition) most))) (
 
   -- 33 bytes a group
   size : length line ≡ 33 * (length bytes / 40)
-  unfolding sentLine
-  size = length-damaged (sentLine (editionOf edition) bytes start) f ∙ length-cut 8 (33 * (length bytes / 40)) (streamBit 66 (lineWords (mirror start) (blocksFor (editionOf edition) bytes)))
+  size = length-damaged (sentLine (editionOf edition) bytes start) f ∙ length-sent edition bytes start
 
   receives-line : Receives edition line out r out′
   receives-line = subst (λ (l : List ℕ). Receives edition (damaged l f) out r out′) stands receives

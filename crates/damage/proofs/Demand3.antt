@@ -8,13 +8,13 @@ use native.Mathlib.Omega.{arith}
 use lib.Dec.{T}
 use lib.ListN.{length, getD}
 use borrow.Author.Tests.{le-leb}
-use Rattle.sending.proofs.Laws.{length-vectors, length-blocks}
+use Rattle.transmit.proofs.Laws.{length-vectors, length-blocks}
 use Rattle.bits.specs.Bits.{bit, total, streamBit, cut}
 use Rattle.bits.proofs.Laws.{bit-lt, length-cut, odd-exactly}
 use Rattle.scrambler.specs.Scrambler.{mirror}
 use Rattle.scrambler.proofs.Laws.{mirror-lt}
 use Rattle.line.specs.declared.Block.{Block}
-use Rattle.line.specs.Word.{word}
+use Rattle.line.specs.BlockNumber.{blockNumber}
 use Rattle.block.specs.declared.Edition.{Edition}
 use Rattle.block.specs.declared.Edition.the-variants.{Old, New}
 use Rattle.block.specs.Block.{editionOf, kindOf, decoded, laneOf}
@@ -25,12 +25,11 @@ use Rattle.block.specs.declared.Class.the-variants.{Bad}
 use Rattle.block.proofs.Tests.{all}
 use Rattle.block.proofs.Near.{apart, four-apart, two-apart}
 use Rattle.diagrams.specs.declared.State.the-variants.{Init}
-use Rattle.sending.specs.Send.{errorBlock, sentBlocks, blocksFor, lineWords, sentLine}
-use Rattle.sending.specs.Send as Sending
+use Rattle.transmit.specs.Send.{errorBlock, sentBlocks, blocksFor, lineWords, sentLine, vectorList}
 use Rattle.receiving.specs.Machine.{Tested, linkFresh}
 use Rattle.receiving.specs.Receive.{answers, vectorsOf}
 use Rattle.receiving.specs.Answer.{summaryOf}
-use Rattle.demands.specs.Words.{accepts, Unbroken}
+use Rattle.demands.specs.Words.{SendAccepts, Unbroken}
 use Rattle.demands.proofs.Line.{AllFit}
 use Rattle.demands.proofs.Runs.{testedAll, valids, length-tested}
 use Rattle.demands.proofs.Lock.{FirstValid, invalids, Locks, lock-by-64, locked-at}
@@ -43,7 +42,7 @@ use Rattle.damage.specs.Demand3.{mostFlips, sentVector, place, SameContr
 use Rattle.damage.proofs.Flipped.{headerFlips, flips-split}
 use Rattle.damage.proofs.Blocks.{flippedBlock, flippedBlocks, flipped-length, flipped-at, flipped-fits, damaged-line}
 use Rattle.damage.proofs.Headers.{Header, damaged-header, few-invalid, first-valid}
-use Rattle.damage.proofs.Answers.{ErrorOr, answer-at, Read, tested-at}
+use Rattle.damage.proofs.Answers.{ErrorOr, answer-at, TestedAs, tested-at}
 use Rattle.damage.proofs.OneBlock.{one-block}
 use Rattle.damage.proofs.Payloads.{readPayload, read-bit, read-near}
 use Rattle.damage.proofs.SentBlocks.{AllSent, blocks-sent, sent-at, line-headers}
@@ -98,7 +97,7 @@ module _ (ed : Edition) (most : ℕ) (far : T (all (apart ed most))) (small : mo
       )
 
   -- the damaged line is the line of the blocks that come
-  line-is : damaged line f ≡ cut 8 (streamBit 66 (map word came)) (33 * groups)
+  line-is : damaged line f ≡ cut 8 (streamBit 66 (map blockNumber came)) (33 * groups)
   line-is =
       ap (λ (ws : List ℕ). damaged (cut 8 (streamBit 66 ws) (33 * groups)) f) (line-words h bs)
       ∙ damaged-line f (lineBlocks h bs) groups (line-fits h bs fits) (length-line h bs ∙ four)
@@ -151,7 +150,7 @@ module _ (ed : Edition) (most : ℕ) (far : T (all (apart ed most))) (small : mo
       answered : ErrorOr (kindOf ed header payload) (decoded ed header payload) (getD (vectorsOf ed (damaged line f)) k [])
       answered =
           let ts : List Tested = testedAll (linkFresh ed) came in
-          let r : Read ed header payload (getD ts k untested) = tested-at (linkFresh ed) came errorBlock untested k (omega (arith, count)) in
+          let r : TestedAs ed header payload (getD ts k untested) = tested-at (linkFresh ed) came errorBlock untested k (omega (arith, count)) in
           let on : getD ts k untested .on ≡ true =
           locked-at 63 (linkFresh ed) came untested (omega (arith, count)) damaged-locks k (omega (arith, count)) ∙ le-leb 63 k late in
           subst (λ (vs : List (List ℕ)). ErrorOr (kindOf ed header payload) (decoded ed header payload) (getD vs k [])) (sym damaged-vectors)
@@ -194,14 +193,14 @@ module _ (ed : Edition) (most : ℕ) (far : T (all (apart ed most))) (small : mo
 -- ---- the demand, for any number of flips below 16 that the distances of the types and of the codes exceed
 
 module _ (edition most : ℕ) (far : T (all (apart (editionOf edition) most))) (small : most < 16) (bytes : List ℕ) (start room : ℕ)
-    (ok : accepts edition bytes start room) (f : ℕ → ℕ) (flips : Flips most (sentLine (editionOf edition) bytes start) f) where
+    (ok : SendAccepts edition bytes start room) (f : ℕ → ℕ) (flips : Flips most (sentLine (editionOf edition) bytes start) f) where
   -- the edition at both ends
   abbrev ed : Edition
   ed = editionOf edition
 
   -- the vectors of the list, and that their blocks are as the laws above want them
   abbrev vs : List (List ℕ)
-  vs = Sending.vectorsOf bytes
+  vs = vectorList bytes
 
   sound : AllSent ed (sentBlocks ed Init vs)
   sound = blocks-sent ed Init vs (vectors-well edition bytes start room ok)

@@ -6,9 +6,9 @@ use native.Mathlib.Omega.{arith}
 use borrow.Author.Tests.{lt-ltb, le-ltb}
 use Rattle.bits.specs.Bits.{total}
 use Rattle.bits.proofs.Laws.{bit-none, by-lt, total-add, total-below}
-use Rattle.register.specs.Register.{whole, flipsSeen}
+use Rattle.register.specs.Register.{whole}
 use Rattle.register.proofs.Laws.{whole-low, whole-high}
-use Rattle.damage.specs.Damage.{payloadBit, before, flipsBefore}
+use Rattle.damage.specs.Damage.{payloadBit, bitBefore, flipsBefore}
 
 -- ---- how many flips there are
 
@@ -41,16 +41,16 @@ flips-split f (suc n) =
     sums t h p a b c u v w x = omega arith
 
 -- the flips that a received payload bit sees, as the register has them
-before-is : (g : ℕ → ℕ) (d n : ℕ) → d ≤ 58 → before d g n ≡ whole 57 0 g (n + (58 - d))
-before-is g d n l =
+bit-before-is : (g : ℕ → ℕ) (d n : ℕ) → d ≤ 58 → bitBefore d g n ≡ whole 57 0 g (n + (58 - d))
+bit-before-is g d n l =
     by-lt n d
     (λ m. ap (λ (t : Bool). cond t 0 (g (n - d))) (lt-ltb n d m) ∙ sym (whole-low 57 0 g (n + (58 - d)) (omega arith) ∙ bit-none (n + (58 - d))))
     (λ m. ap (λ (t : Bool). cond t 0 (g (n - d))) (le-ltb n d m) ∙ sym (whole-high 57 0 g (n + (58 - d)) (n - d) (omega arith)))
 
 -- those of the demand are those of the register
-pub flips-seen : (f : ℕ → ℕ) (n : ℕ) → flipsSeen 57 39 0 (payloadBit f) n ≡ flipsBefore f n
-unfolding flipsSeen flipsBefore
+pub flips-seen : (f : ℕ → ℕ) (n : ℕ) → payloadBit f n + whole 57 0 (payloadBit f) (n + 19) + whole 57 0 (payloadBit f) n ≡ flipsBefore f n
+unfolding flipsBefore
 flips-seen f n =
     let e : n ≡ n + 0 = omega arith in
-    ap₂ (λ (u v : ℕ). payloadBit f n + u + v) (sym (before-is (payloadBit f) 39 n (omega arith)))
-    (ap (whole 57 0 (payloadBit f)) e ∙ sym (before-is (payloadBit f) 58 n (omega arith)))
+    ap₂ (λ (u v : ℕ). payloadBit f n + u + v) (sym (bit-before-is (payloadBit f) 39 n (omega arith)))
+    (ap (whole 57 0 (payloadBit f)) e ∙ sym (bit-before-is (payloadBit f) 58 n (omega arith)))

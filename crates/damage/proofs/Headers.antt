@@ -13,7 +13,7 @@ use Rattle.line.specs.declared.Block.{Block}
 use Rattle.block.specs.declared.Edition.{Edition}
 use Rattle.block.specs.Block.{kindOf}
 use Rattle.block.specs.declared.Kind.the-variants.{E}
-use Rattle.diagrams.specs.Lock.{invalidOf}
+use Rattle.lock.specs.Lock.{invalidOf}
 use Rattle.receiving.specs.Machine.{validOf}
 use Rattle.demands.proofs.Runs.{valids}
 use Rattle.demands.proofs.Lock.{invalids, FirstValid}

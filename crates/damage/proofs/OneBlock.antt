@@ -16,7 +16,7 @@ use Rattle.block.specs.declared.Kind.the-variants.{E}
 use Rattle.block.proofs.Tests.{all, eight}
 use Rattle.block.proofs.Reading.{good-vector, vector-flag, data-inside}
 use Rattle.block.proofs.Near.{apart, near-blocks, near-error, data-bits-at}
-use Rattle.sending.specs.Send.{errorBlock}
+use Rattle.transmit.specs.Send.{errorBlock}
 use Rattle.damage.specs.Demand3.{sentVector, place, SameControl}
 use Rattle.damage.proofs.Headers.{Header}
 

@@ -15,7 +15,7 @@ use Rattle.block.proofs.Sending.{carrier-header, carrier-fits, round-trip}
 use Rattle.diagrams.specs.Diagram.{transmitOf}
 use Rattle.diagrams.specs.declared.State.{State}
 use Rattle.diagrams.specs.declared.State.the-variants.{Init, Control, Data, Terminate, Error, LowPower}
-use Rattle.sending.specs.Send.{errorBlock, ownBlock, blockIn, sentBlocks}
+use Rattle.transmit.specs.Send.{errorBlock, ownBlock, blockIn, sentBlocks}
 use Rattle.demands.proofs.Octets.{octets}
 use Rattle.demands.proofs.Sent.{Vector, Vectors}
 use Rattle.demands.proofs.Descrambling.{lineBlocks}

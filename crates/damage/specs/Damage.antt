@@ -25,9 +25,9 @@ abbrev pub payloadBit : (ℕ → ℕ) → ℕ → ℕ
 payloadBit stream n = stream (66 * (n / 64) + 2 + n % 64)
 
 -- the bit that stands d places before bit n of a stream; 0 where the stream has not begun
-abbrev pub before : ℕ → (ℕ → ℕ) → ℕ → ℕ
-before d stream n = cond (ltb n d) 0 (stream (n - d))
+abbrev pub bitBefore : ℕ → (ℕ → ℕ) → ℕ → ℕ
+bitBefore d stream n = cond (ltb n d) 0 (stream (n - d))
 
 -- how many flipped payload bits "stand 0, 39 or 58 payload bits before" payload bit n
 unfoldable pub flipsBefore : (ℕ → ℕ) → ℕ → ℕ
-flipsBefore flips n = payloadBit flips n + before 39 (payloadBit flips) n + before 58 (payloadBit flips) n
+flipsBefore flips n = payloadBit flips n + bitBefore 39 (payloadBit flips) n + bitBefore 58 (payloadBit flips) n

@@ -12,16 +12,15 @@ use Rattle.bits.specs.Bits.{bit}
 use Rattle.line.specs.declared.Block.{Block}
 use Rattle.block.specs.declared.Edition.{Edition}
 use Rattle.block.specs.declared.Edition.the-variants.{Old, New}
-use Rattle.block.specs.Block.{editionOf, Format, formatOf, decoded, errorVector, flagOf, laneOf}
-use Rattle.block.specs.Rows.{placeAt}
-use Rattle.sending.specs.Send.{vectorsIn, errorBlock, blocksFor, sentLine}
+use Rattle.block.specs.Block.{editionOf, Format, formatOf, decoded, errorVector, flagOf, laneOf, placeAt}
+use Rattle.transmit.specs.Send.{vectorsIn, errorBlock, blocksFor, sentLine}
 use Rattle.sending.specs.Answer.{Sends}
 use Rattle.sending.specs.declared.Sending.{Sending}
 use Rattle.sending.specs.declared.Sent.the-variants as Sent
 use Rattle.receiving.specs.Receive.{vectorsOf}
 use Rattle.receiving.specs.Answer.{answerOf, received, summaryOf, Receives}
 use Rattle.receiving.specs.declared.Received.{Received}
-use Rattle.demands.specs.Words.{accepts, Unbroken}
+use Rattle.demands.specs.Words.{SendAccepts, Unbroken}
 use Rattle.damage.specs.Damage.{damaged, Flips, flipsBefore}
 
 -- ---- a block that was sent, as it was before scrambling
@@ -70,7 +69,7 @@ mostFlips New = 1
 abbrev pub Demand3 : (edition most : ℕ) → Type 0
 Demand3 edition most =
     (bytes : List ℕ) (start room : ℕ)
-    → accepts edition bytes start room
+    → SendAccepts edition bytes start room
     → (flips : ℕ → ℕ)
     → Flips most (sentLine (editionOf edition) bytes start) flips
     → Survived (editionOf edition) flips (blocksFor (editionOf edition) bytes)

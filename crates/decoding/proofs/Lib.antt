@@ -1,4 +1,4 @@
-pub mod Looking
-pub mod Quickly
 pub mod Rows
+pub mod Looking
+pub mod Put
 pub mod Unique

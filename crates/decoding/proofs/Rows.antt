@@ -13,14 +13,18 @@ use Rattle.block.specs.declared.Edition.the-variants.{New}
 use Rattle.block.specs.declared.Reason.the-variants.{Header, BlockType, ControlCode, SetCode}
 use Rattle.block.specs.declared.Class.{Class}
 use Rattle.block.specs.declared.Class.the-variants as Class
-use Rattle.block.specs.Block.{word, twoWords, Format, noFormat, dataBlock, flagsAt, byType, controlBlocks, formatOf, kindFor, vectorOf, errorVector, decodedBy, decoded, good, classBy, classOf}
+use Rattle.block.specs.Block.{word, twoWords, Format, noFormat, dataBlock, octetAt, flagsAt, byType, controlBlocks, formatOf, kindFor, vectorOf, errorVector, decodedBy, decoded, good, classBy, classOf}
 use Rattle.block.specs.Rows.{row, rowOf, indexOf}
 use Rattle.block.proofs.Formats.{flags-lt, row-sound, row-format, row-none}
 use Rattle.block.proofs.Reading.{Below, when-valid, when-not, data-below}
 use Rattle.block.proofs.Telling.{Tells, character-tells, vector-tells}
-use Rattle.block.proofs.Classes.{None, none-below, class-good, class-control, class-set, class-data, class-row, class-no-type, class-no-header}
+use Rattle.block.proofs.Classes.{None, none-below, class-good, class-control, class-set, class-data, class-no-type, class-no-header}
 use Rattle.block.proofs.Sending.{ten}
-use Rattle.decoding.specs.Parts.{octetBy, lanesBy, overBy, badBy}
+use Rattle.characters.specs.Octets.{lanesBy, overBy, badBy}
+
+-- the octet of character p of a block of row r, not below 256 where its bits are not valid
+abbrev pub octetBy : Edition → ℕ → ℕ → ℕ → ℕ
+octetBy ed r x p = octetAt ed (row r .fields) (x / 2 ^ row r .lead) p
 
 -- ---- numbers
 
@@ -191,19 +195,6 @@ module _ (ed : Edition) where
   low-answer h x n e q =
       subst (λ (ed : Edition). (Class.LI ≡ classOf ed h x) × (twoWords 15 0x06060606 15 0x06060606 ≡ decoded ed h x)) (sym n)
       (subst₂ (λ (h x : ℕ). (Class.LI ≡ classOf New h x) × (twoWords 15 0x06060606 15 0x06060606 ≡ decoded New h x)) (sym e) (sym q) low-block)
-
-  -- a control block by the row of its type
-  pub row-answer : (h x r : ℕ) (c : Class) (v : List ℕ) → h ≡ 1 → r ≡ rowOf (x % 256) → r < 16
-      → (c ≡ classBy ed (row r) x) × (v ≡ decodedBy ed (row r) x) → (c ≡ classOf ed h x) × (v ≡ decoded ed h x)
-  unfolding decoded
-  row-answer h x r c v e q l w =
-      let f : row r ≡ formatOf h x = ap row q ∙ row-format 1 x ∙ ap (λ (n : ℕ). formatOf n x) (sym e) in (
-        w .0
-            ∙ ap (λ (n : ℕ). classBy ed (row n) x) q
-            ∙ sym (class-row ed x (subst (λ (n : ℕ). n < 16) q l))
-            ∙ ap (λ (n : ℕ). classOf ed n x) (sym e),
-        w .1 ∙ ap (λ (g : Format). decodedBy ed g x) f,
-      )
 
   -- a type that is none, and a header that is neither
   no-format : (h x : ℕ) → formatOf h x ≡ noFormat → errorVector ≡ decoded ed h x

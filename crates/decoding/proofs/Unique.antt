@@ -1,27 +1,21 @@
 -- Any two answers, and contents of lent memory, that meet a public function's promise are equal.
 use mathlib.Core.Path.{_≡_, _∙_, ap, sym}
 use mathlib.Core.Bool.{true}
-use mathlib.Core.List.{List}
-use Prim.Native.Nat.{ℕ, _/_, _%_, _^_, _<_}
+use mathlib.Core.List.{List, _++_}
+use Prim.Native.Nat.{ℕ, _+_, _/_, _%_, _^_, _<_}
 use native.Mathlib.Omega.{arith}
-use lib.Bits.{bitAnd}
-use lib.Dec.{eqb}
-use lib.ListN.{getD}
+use lib.ListN.{getD, take, drop}
 use lib.Pow.{shr-shr}
 use Rattle.block.specs.declared.Edition.{Edition}
 use Rattle.block.specs.declared.Edition.the-variants.{Old}
 use Rattle.block.specs.declared.Kind.{Kind}
 use Rattle.block.specs.declared.Class.{Class}
-use Rattle.block.specs.Block.{octetOf, decoded, good, classOf, kindIn}
-use Rattle.block.specs.Rows.{width}
+use Rattle.block.specs.Block.{decoded, good, classOf, kindIn}
 use Rattle.decoding.specs.declared.Vector.{Vector}
 use Rattle.decoding.specs.declared.Decoded.{Decoded}
 use Rattle.decoding.specs.declared.QuickDecoded.{QuickDecoded}
-use Rattle.decoding.specs.declared.shapes.Shape.{Shape}
 use Rattle.decoding.specs.Vector.{vectorBytes}
-use Rattle.decoding.specs.Quickly.{Quickly}
-use Rattle.decoding.specs.Parts.{slotAt, Shapes}
-use Rattle.decoding.proofs.Quickly.{words, quickly}
+use Rattle.decoding.specs.AtOnce.{DecodedAtOnce}
 
 -- a word of 32 bits is known by its four bytes
 lanes-same : (a b : ℕ) → a < 2 ^ 32 → b < 2 ^ 32 → a % 2 ^ 8 ≡ b % 2 ^ 8 → a / 2 ^ 8 % 2 ^ 8 ≡ b / 2 ^ 8 % 2 ^ 8 → a / 2 ^ 16 % 2 ^ 8 ≡ b / 2 ^ 16 % 2 ^ 8
@@ -68,7 +62,7 @@ decode-unique ed h x r r′ a b c d p q = λ i. record { class = class i; vector
 
 -- `quick`: any two answers that are there
 pub quick-unique : (h x : ℕ) (r r′ : QuickDecoded) → r .vector .d0 < 2 ^ 32 → r .vector .d1 < 2 ^ 32 → r′ .vector .d0 < 2 ^ 32 → r′ .vector .d1 < 2 ^ 32
-    → r .there ≡ true → r′ .there ≡ true → Quickly h x r → Quickly h x r′ → r ≡ r′
+    → r .there ≡ true → r′ .there ≡ true → DecodedAtOnce h x r → DecodedAtOnce h x r′ → r ≡ r′
 quick-unique h x r r′ a b c d t t′ p q = λ i. record { there = (t ∙ sym t′) i; class = class i; vector = vector i }
   where
     class : r .class ≡ r′ .class
@@ -76,18 +70,6 @@ quick-unique h x r r′ a b c d t t′ p q = λ i. record { there = (t ∙ sym t
 
     vector : r .vector ≡ r′ .vector
     vector = vector-same (r .vector) (r′ .vector) a b c d (p t Old .1 ∙ sym (q t′ Old .1))
-
--- `characters::character`
-pub character-unique : (ed : Edition) (n a x z z′ : ℕ) → z ≡ octetOf ed (slotAt n) (x / 2 ^ a % 2 ^ width (slotAt n)) → z′ ≡ octetOf ed (slotAt n) (x / 2 ^ a % 2 ^ width (slotAt n)) → z ≡ z′
-character-unique ed n a x z z′ p q = p ∙ sym q
-
--- `shapes::shape_of`: any two shapes of a number make the same of a block that both take
-pub shape-of-unique : (h x n : ℕ) (s s′ : Shape) → Shapes n s → Shapes n s′ → h ≡ s .header → h ≡ s′ .header
-    → eqb (bitAnd x (s .codes)) (s .first) ≡ true → eqb (bitAnd x (s′ .codes)) (s′ .first) ≡ true → (s .class ≡ s′ .class) × (words s x ≡ words s′ x)
-shape-of-unique h x n s s′ p q e e′ t t′ =
-    let a = quickly h x n s p e t Old in
-    let b = quickly h x n s′ q e′ t′ Old in
-    (a .0 ∙ sym (b .0), a .1 ∙ sym (b .1))
 
 pub bytes-of-unique : (v : Vector) (r r′ : List ℕ) → r ≡ vectorBytes v → r′ ≡ vectorBytes v → r ≡ r′
 bytes-of-unique v r r′ p q = p ∙ sym q
@@ -104,3 +86,9 @@ classify-unique ed h x c c′ p q = p ∙ sym q
 -- `good_class`
 pub good-class-unique : (k : Kind) (r r′ : Class) → r ≡ good k → r′ ≡ good k → r ≡ r′
 good-class-unique k r r′ p q = p ∙ sym q
+
+-- `put_vector`: the room after it
+pub put-vector-unique : (room : List ℕ) (at : ℕ) (v : Vector) (a b : List ℕ)
+    → a ≡ take at room ++ (vectorBytes v ++ drop (at + 10) room)
+    → b ≡ take at room ++ (vectorBytes v ++ drop (at + 10) room) → a ≡ b
+put-vector-unique room at v a b p q = p ∙ sym q

@@ -1,3 +1,2 @@
 pub mod Vector
-pub mod Parts
-pub mod Quickly
+pub mod AtOnce

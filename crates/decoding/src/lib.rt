@@ -1,18 +1,20 @@
 // One received block: its class and its vector.
 ghost use mathlib.Core.Path.{_≡_};
-ghost use Prim.Native.Nat.{_<_, _≤_};
+ghost use mathlib.Core.List.{_++_};
+ghost use Prim.Native.Nat.{_+_, _<_, _≤_};
+ghost use lib.ListN.{length, take, drop};
 ghost use Rattle.block.specs.Block.{errorVector, decodedBy, decoded, good, classBy, classOf, kindIn};
 ghost use Rattle.block.specs.Rows.{row};
 ghost use Rattle.decoding.specs.Vector.{vectorBytes};
-ghost use Rattle.decoding.specs.Parts.{octetFrom, lanesBy, overBy, badBy, OfFormat};
-ghost use Rattle.decoding.specs.Quickly.{Quickly};
+ghost use Rattle.shapes.specs.Shapes.{OfFormat};
+ghost use Rattle.decoding.specs.AtOnce.{DecodedAtOnce};
 use block::Class;
 use block::Edition;
 use block::Kind;
 use block::Reason;
-
-mod characters;
-mod shapes;
+use characters::four;
+use shapes::Shape;
+use shapes::shape_of;
 
 // A vector: two words, each a control byte and four lanes, lane 0 lowest. The control bytes stand together, so that no gap of three bytes is
 // copied with it.
@@ -72,14 +74,6 @@ fn bad(why: Reason) -> Decoded
     }
 }
 
-// Four characters: their octets as lanes, what of them does not fit a byte, 0 where all are valid, and how many of them say that
-// their control code is bad.
-struct Half {
-    lanes: u32,
-    over: u16,
-    bad: u16,
-}
-
 // A block decoded at once, where all its codes are 0: whether that is so, its class and its vector. Those are idles, ordered sets, Starts,
 // Terminates and data, which are the same in both editions.
 pub struct QuickDecoded {
@@ -90,9 +84,9 @@ pub struct QuickDecoded {
 
 // A block with this header and payload, decoded at once.
 pub fn quick(header: u64, payload: u64) -> QuickDecoded
-    ensures { λ r. ⌜ Quickly header payload r ⌝ }
+    ensures { λ r. ⌜ DecodedAtOnce header payload r ⌝ }
 {
-    let s = shapes::shape_of(header % 2 * (payload % 16));
+    let s = shape_of(header % 2 * (payload % 16));
     let x = ((payload >> s.shift) & s.lanes) | s.fixed;
     let class = s.class;
     QuickDecoded {
@@ -107,26 +101,8 @@ pub fn quick(header: u64, payload: u64) -> QuickDecoded
     }
 }
 
-// Four characters, whose places and slots are four bytes each.
-fn four(edition: Edition, places: u64, slots: u64, x: u64) -> Half
-    ensures { λ z. ⌜ (z .lanes ≡ lanesBy (octetFrom edition places slots x 0) (octetFrom edition places slots x 1) (octetFrom edition places slots x 2) (octetFrom edition places slots x 3)) × (z .over ≡ overBy (octetFrom edition places slots x 0) (octetFrom edition places slots x 1) (octetFrom edition places slots x 2) (octetFrom edition places slots x 3)) × (z .bad ≡ badBy (octetFrom edition places slots x 0) (octetFrom edition places slots x 1) (octetFrom edition places slots x 2) (octetFrom edition places slots x 3)) × (z .over < 1024) × (z .bad ≤ 4) ⌝ }
-{
-    let a = characters::character(edition, slots % 8, places % 64, x);
-    let b = characters::character(edition, slots / 256 % 8, places / 256 % 64, x);
-    let c = characters::character(edition, slots / 65536 % 8, places / 65536 % 64, x);
-    let d = characters::character(edition, slots / 16777216 % 8, places / 16777216 % 64, x);
-    Half {
-        lanes: (a % 256) as u32
-            + (b % 256) as u32 * 256
-            + (c % 256) as u32 * 65536
-            + (d % 256) as u32 * 16777216,
-        over: a / 256 + b / 256 + c / 256 + d / 256,
-        bad: a / 256 % 2 + b / 256 % 2 + c / 256 % 2 + d / 256 % 2,
-    }
-}
-
 // A block of row r, with its shape.
-fn decode_row(edition: Edition, r: usize, s: shapes::Shape, x: u64) -> Decoded
+fn decode_row(edition: Edition, r: usize, s: Shape, x: u64) -> Decoded
     requires { ⌜ (r < 16) × OfFormat (row r) s ⌝ }
     ensures { λ z. ⌜ (z .class ≡ classBy edition (row r) x) × (vectorBytes (z .vector) ≡ decodedBy edition (row r) x) ⌝ }
 {
@@ -174,7 +150,7 @@ fn decode_control(edition: Edition, payload: u64) -> Decoded
             }
         }
     }
-    let s = shapes::shape_of(payload % 16);
+    let s = shape_of(payload % 16);
     decode_row(edition, r, s, payload)
 }
 
@@ -236,6 +212,25 @@ pub fn bytes_of(v: Vector) -> [u8; 10]
         (v.d1 / 65536 % 256) as u8,
         (v.d1 / 16777216 % 256) as u8,
     ]
+}
+
+// A vector's ten bytes, from byte at on.
+pub fn put_vector(room: &mut [u8], at: usize, v: Vector)
+    requires { ⌜ at + 10 ≤ length (now room) ⌝ }
+    ensures { λ _. ⌜ now (room .exit) ≡ take at (now (room .entry)) ++ (vectorBytes v ++ drop (at + 10) (now (room .entry))) ⌝ }
+{
+    let d0 = v.d0;
+    let d1 = v.d1;
+    room[at] = v.c0;
+    room[at + 1] = (d0 % 256) as u8;
+    room[at + 2] = (d0 / 256 % 256) as u8;
+    room[at + 3] = (d0 / 65536 % 256) as u8;
+    room[at + 4] = (d0 / 16777216 % 256) as u8;
+    room[at + 5] = v.c1;
+    room[at + 6] = (d1 % 256) as u8;
+    room[at + 7] = (d1 / 256 % 256) as u8;
+    room[at + 8] = (d1 / 65536 % 256) as u8;
+    room[at + 9] = (d1 / 16777216 % 256) as u8;
 }
 
 // The class of a block; its vector, the error vector where it is bad, goes into out.

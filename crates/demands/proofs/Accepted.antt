@@ -10,14 +10,14 @@ use lib.Seq.{length-take-le, getD-take, getD-drop, drop-drop}
 use borrow.Author.Tests.{ltb-false, eqb-true, not-false}
 use Rattle.refusals.proofs.Laws.{passed}
 use Rattle.block.specs.Block.{highFrom, highControl}
-use Rattle.sending.specs.Send.{vectorsIn, vectorsOf}
+use Rattle.transmit.specs.Send.{vectorsIn, vectorList}
 use Rattle.sending.specs.Answer.{sendChecks}
-use Rattle.demands.specs.Words.{accepts}
+use Rattle.demands.specs.Words.{SendAccepts}
 use Rattle.demands.proofs.Sent.{Vectors}
 
 -- ---- the checks that have passed
 
-module _ (edition : ℕ) (bytes : List ℕ) (start room : ℕ) (ok : accepts edition bytes start room) where
+module _ (edition : ℕ) (bytes : List ℕ) (start room : ℕ) (ok : SendAccepts edition bytes start room) where
   -- the six of them, in order
   checked : (ltb 1 edition ≡ false) × (ltb 1000000 (length bytes) ≡ false) × (not (eqb (length bytes % 40) 0) ≡ false) × (leb (2 ^ 58) start ≡ false)
       × (ltb room (33 * (length bytes / 40)) ≡ false) × (ltb (highControl bytes) (length bytes) ≡ false)
@@ -104,7 +104,7 @@ vectors-in (suc k) bytes h low = (
       rw (getD-drop 10 bytes (5 * i) 0, e) (low (2 + i) (omega arith))),
 )
 
-module _ (edition : ℕ) (bytes : List ℕ) (start room : ℕ) (ok : accepts edition bytes start room) where
+module _ (edition : ℕ) (bytes : List ℕ) (start room : ℕ) (ok : SendAccepts edition bytes start room) where
   -- whole vectors, four to a group
   pub ten-each : length bytes ≡ 10 * (length bytes / 10)
   ten-each = omega (arith, whole-groups edition bytes start room ok)
@@ -114,7 +114,7 @@ module _ (edition : ℕ) (bytes : List ℕ) (start room : ℕ) (ok : accepts edi
   four-each = omega (arith, whole-groups edition bytes start room ok)
 
   -- each vector has ten bytes, and control bytes below 16
-  pub vectors-well : Vectors (vectorsOf bytes)
+  pub vectors-well : Vectors (vectorList bytes)
   unfolding highControl
   vectors-well =
       vectors-in (length bytes / 10) bytes (omega (arith, ten-each))

@@ -14,7 +14,7 @@ use Rattle.diagrams.specs.declared.State.{State}
 use Rattle.diagrams.specs.declared.State.the-variants.{Init, Control, Data, Terminate, Error, LowPower}
 use Rattle.receiving.specs.Machine.{Tested}
 use Rattle.receiving.specs.Receive.{letsEnd, ends, stateOf, answerIn, judge, answers}
-use Rattle.demands.specs.Words.{isError, legalFrom}
+use Rattle.demands.specs.Words.{inError, legalFrom}
 use Rattle.demands.proofs.Lock.{On}
 
 -- ---- not locked: one Local Fault vector for each block, and the diagram starts anew
@@ -58,7 +58,7 @@ same-step Error k e h = error-step k e h
 same-step LowPower k e h = refl
 
 -- after INIT, C or T a step that does not lead to E answers the decoded vector
-idle-own : (low : State) (k : Kind) (v : List ℕ) → (isError low ≡ false → answerIn low v ≡ v) → isError (afterIdle low k) ≡ false → answerIn (afterIdle low k) v ≡ v
+idle-own : (low : State) (k : Kind) (v : List ℕ) → (inError low ≡ false → answerIn low v ≡ v) → inError (afterIdle low k) ≡ false → answerIn (afterIdle low k) v ≡ v
 unfolding afterIdle answerIn
 idle-own low D v g h = absurd (true≢false h)
 idle-own low C v g h = refl
@@ -68,7 +68,7 @@ idle-own low E v g h = absurd (true≢false h)
 idle-own low LI v g h = g h
 
 -- after D, the same
-data-own : (k : Kind) (v : List ℕ) → isError (afterData k true) ≡ false → answerIn (afterData k true) v ≡ v
+data-own : (k : Kind) (v : List ℕ) → inError (afterData k true) ≡ false → answerIn (afterData k true) v ≡ v
 unfolding afterData answerIn
 data-own D v h = refl
 data-own C v h = absurd (true≢false h)
@@ -78,7 +78,7 @@ data-own E v h = absurd (true≢false h)
 data-own LI v h = absurd (true≢false h)
 
 -- after E, the same
-error-own : (k : Kind) (v : List ℕ) → isError (afterError k true) ≡ false → answerIn (afterError k true) v ≡ v
+error-own : (k : Kind) (v : List ℕ) → inError (afterError k true) ≡ false → answerIn (afterError k true) v ≡ v
 unfolding afterError answerIn
 error-own D v h = refl
 error-own C v h = refl
@@ -88,7 +88,7 @@ error-own E v h = absurd (true≢false h)
 error-own LI v h = refl
 
 -- after LI, the same
-low-own : (k : Kind) (v : List ℕ) → isError (afterLow k) ≡ false → answerIn (afterLow k) v ≡ v
+low-own : (k : Kind) (v : List ℕ) → inError (afterLow k) ≡ false → answerIn (afterLow k) v ≡ v
 unfolding afterLow answerIn
 low-own D v h = absurd (true≢false h)
 low-own C v h = refl
@@ -98,7 +98,7 @@ low-own E v h = absurd (true≢false h)
 low-own LI v h = refl
 
 -- a step that does not lead to E answers the decoded vector
-own : (s : State) (k : Kind) (v : List ℕ) → isError (transmitOf s k) ≡ false → answerIn (transmitOf s k) v ≡ v
+own : (s : State) (k : Kind) (v : List ℕ) → inError (transmitOf s k) ≡ false → answerIn (transmitOf s k) v ≡ v
 unfolding diagramOf answerIn
 own Init k v h = idle-own Error k v (λ e. absurd (true≢false e)) h
 own Control k v h = idle-own LowPower k v (λ e. refl) h
@@ -108,7 +108,7 @@ own Error k v h = error-own k v h
 own LowPower k v h = low-own k v h
 
 -- a Terminate that does not lead to E leads to T
-ended : (s : State) → isError (transmitOf s T) ≡ false → transmitOf s T ≡ Terminate
+ended : (s : State) → inError (transmitOf s T) ≡ false → transmitOf s T ≡ Terminate
 unfolding diagramOf afterIdle afterData afterError afterLow
 ended Init h = absurd (true≢false h)
 ended Control h = absurd (true≢false h)
@@ -118,7 +118,7 @@ ended Error h = refl
 ended LowPower h = absurd (true≢false h)
 
 -- what may come after T is S, C or LI
-may-follow : (k : Kind) → isError (transmitOf Terminate k) ≡ false → follows k ≡ true
+may-follow : (k : Kind) → inError (transmitOf Terminate k) ≡ false → follows k ≡ true
 unfolding diagramOf afterIdle follows
 may-follow D h = absurd (true≢false h)
 may-follow C h = refl
@@ -148,16 +148,16 @@ module _ (ed : Edition) where
 
   module _ (s : State) (v : List ℕ) (vs : List (List ℕ)) (l : legalFrom ed s (v ∷ vs) ≡ true) where
     -- the first vector of a legal list does not lead to E
-    pub legal-head : isError (transmitOf s (vectorKind ed v)) ≡ false
+    pub legal-head : inError (transmitOf s (vectorKind ed v)) ≡ false
     unfolding legalFrom
     legal-head =
-        not-true (isError (transmitOf s (vectorKind ed v)))
-        (and-left (not (isError (transmitOf s (vectorKind ed v)))) (legalFrom ed (transmitOf s (vectorKind ed v)) vs) l)
+        not-true (inError (transmitOf s (vectorKind ed v)))
+        (and-left (not (inError (transmitOf s (vectorKind ed v)))) (legalFrom ed (transmitOf s (vectorKind ed v)) vs) l)
 
     -- the rest is legal from there
     pub legal-tail : legalFrom ed (transmitOf s (vectorKind ed v)) vs ≡ true
     unfolding legalFrom
-    legal-tail = and-right (not (isError (transmitOf s (vectorKind ed v)))) (legalFrom ed (transmitOf s (vectorKind ed v)) vs) l
+    legal-tail = and-right (not (inError (transmitOf s (vectorKind ed v)))) (legalFrom ed (transmitOf s (vectorKind ed v)) vs) l
 
   -- the block after a Terminate lets its frame end, and so does the end of the input
   lets-end : (s : State) (v : List ℕ) (vs : List (List ℕ)) (ts : List Tested) → legalFrom ed s (v ∷ vs) ≡ true
@@ -170,7 +170,7 @@ module _ (ed : Edition) where
     where
       after : legalFrom ed Terminate (w ∷ vs) ≡ true
       after =
-          ap (λ (r : State). legalFrom ed r (w ∷ vs)) (sym (ended s (ap (λ (k : Kind). isError (transmitOf s k)) (sym t) ∙ legal-head s v (w ∷ vs) l)))
+          ap (λ (r : State). legalFrom ed r (w ∷ vs)) (sym (ended s (ap (λ (k : Kind). inError (transmitOf s k)) (sym t) ∙ legal-head s v (w ∷ vs) l)))
           ∙ ap (λ (k : Kind). legalFrom ed (transmitOf s k) (w ∷ vs)) (sym t)
           ∙ legal-tail s v (w ∷ vs) l
 

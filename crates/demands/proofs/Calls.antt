@@ -1,36 +1,37 @@
 -- Demand 2 of the functions: what follows from the promises of `send` and `receive`. Assumes nothing.
-use mathlib.Core.Path.{_≡_, refl, ap, _∙_, subst}
+use mathlib.Core.Path.{_≡_, refl, sym, ap, _∙_, subst}
 use mathlib.Core.List.{List, _++_, flatten}
 use Prim.Native.Nat.{ℕ, _+_, _*_, _/_, _≤_}
 use native.Mathlib.Omega.{arith}
 use lib.ListN.{length, take, drop, length-append, length-drop}
 use lib.Seq.{take-at}
 use borrow.Author.Tests.{le-ltb}
-use Rattle.sending.proofs.Laws.{length-vectors}
+use Rattle.transmit.proofs.Laws.{length-vectors}
 use Rattle.bits.specs.Bits.{streamBit}
 use Rattle.bits.proofs.Laws.{length-cut}
 use Rattle.scrambler.specs.Scrambler.{mirror}
 use Rattle.refusals.specs.First.{Verdict, accepted, refused, first, byVerdict}
 use Rattle.block.specs.Block.{editionOf}
-use Rattle.sending.specs.Send as Send
-use Rattle.sending.specs.Send.{sentLine, lineWords, blocksFor}
+use Rattle.transmit.specs.Send.{sentLine, lineWords, blocksFor, vectorList}
 use Rattle.sending.specs.Answer as Sending
 use Rattle.sending.specs.Answer.{Sends}
 use Rattle.sending.specs.declared.Sending.{Sending}
 use Rattle.sending.specs.declared.Sent.the-variants as Sent
-use Rattle.receiving.specs.Receive as Receive
+use Rattle.receiving.specs.Receive.{receivedVectors}
 use Rattle.receiving.specs.Answer as Receiving
 use Rattle.receiving.specs.Answer.{Receives}
 use Rattle.receiving.specs.declared.Summary.{Summary}
 use Rattle.receiving.specs.declared.Received.{Received}
 use Rattle.receiving.specs.declared.Received.the-variants as Received
-use Rattle.demands.specs.Words.{accepts, Unbroken}
+use Rattle.demands.specs.Words.{SendAccepts, Unbroken}
 use Rattle.demands.specs.Demand2.{Returnable, faults, Demand2OfCalls}
 use Rattle.demands.proofs.Accepted.{known, not-long}
 use Rattle.demands.proofs.Demand2.{demand-2}
 
--- `send` answers success only where it accepts
-done-accepts : (edition : ℕ) (bytes : List ℕ) (start room : ℕ) (s : Sending) → Sending.answerOf (Sent.Done s) ≡ Sending.sendAnswer edition bytes start room → accepts edition bytes start room
+-- ---- what `send` left
+
+-- it answers success only where it accepts
+pub done-accepts : (edition : ℕ) (bytes : List ℕ) (start room : ℕ) (s : Sending) → Sending.answerOf (Sent.Done s) ≡ Sending.sendAnswer edition bytes start room → SendAccepts edition bytes start room
 unfolding Sending.sendAnswer
 done-accepts edition bytes start room s e = go (first (Sending.sendChecks edition bytes start room)) refl e
   where
@@ -41,9 +42,27 @@ done-accepts edition bytes start room s e = go (first (Sending.sendChecks editio
     go (refused n p) q e = absurd (let z : _≡_ {A = ℕ} 0 1 = cc in omega arith)
 
 -- 33 line bytes for each group
-length-line : (edition : ℕ) (bytes : List ℕ) (start : ℕ) → length (sentLine (editionOf edition) bytes start) ≡ 33 * (length bytes / 40)
+pub length-sent : (edition : ℕ) (bytes : List ℕ) (start : ℕ) → length (sentLine (editionOf edition) bytes start) ≡ 33 * (length bytes / 40)
 unfolding sentLine
-length-line edition bytes start = length-cut 8 (33 * (length bytes / 40)) (streamBit 66 (lineWords (mirror start) (blocksFor (editionOf edition) bytes)))
+length-sent edition bytes start = length-cut 8 (33 * (length bytes / 40)) (streamBit 66 (lineWords (mirror start) (blocksFor (editionOf edition) bytes)))
+
+-- then the line stands at the start of the room
+pub line-stands : (edition : ℕ) (bytes : List ℕ) (start : ℕ) (room room′ : List ℕ) (s : Sending) → Sends edition bytes start room (Sent.Done s) room′
+    → take (33 * (length bytes / 40)) room′ ≡ sentLine (editionOf edition) bytes start
+unfolding Sending.sendRoom
+line-stands edition bytes start room room′ s sends =
+    let line = sentLine (editionOf edition) bytes start in
+    ap (take (33 * (length bytes / 40)))
+    (sends .1
+    ∙ ap (λ (v : Verdict). byVerdict v (line ++ drop (length line) room) (λ number place. room)) (done-accepts edition bytes start (length room) s (sends .0)))
+    ∙ take-at line (drop (length line) room) (33 * (length bytes / 40)) (length-sent edition bytes start)
+
+-- ---- what `receive` answers to it
+
+-- a line of 825,000 bytes or fewer is received, where there is room for its vectors
+pub received-too : (edition line out : ℕ) → edition ≤ 1 → line ≤ 825000 → 10 * (8 * line / 66) ≤ out → first (Receiving.receiveChecks edition line out) ≡ accepted
+unfolding first Receiving.receiveChecks
+received-too edition line out known short enough = rw (le-ltb 1 edition known, le-ltb 825000 line short, le-ltb out (10 * (8 * line / 66)) enough)
 
 -- an answer with the document's values is the function's answer with these values
 received-is : (r : Received) (s : Summary) → Receiving.answerOf r ≡ Receiving.received s → r ≡ Received.Done s
@@ -53,35 +72,22 @@ received-is (Received.Done x) s e =
 received-is (Received.Refused why place) s e = absurd (let z : _≡_ {A = ℕ} 0 1 = cc in omega arith)
 
 module _ (edition : ℕ) (bytes : List ℕ) (start : ℕ) (room room′ : List ℕ) (s : Sending) (sends : Sends edition bytes start room (Sent.Done s) room′)
-    (list : Returnable (editionOf edition) (Send.vectorsOf bytes)) where
+    (list : Returnable (editionOf edition) (vectorList bytes)) where
   -- sending accepted
-  ok : accepts edition bytes start (length room)
+  ok : SendAccepts edition bytes start (length room)
   ok = done-accepts edition bytes start (length room) s (sends .0)
-
-  -- the line stands at the start of the room
-  line-stands : take (33 * (length bytes / 40)) room′ ≡ sentLine (editionOf edition) bytes start
-  unfolding Sending.sendRoom
-  line-stands =
-      ap (take (33 * (length bytes / 40)))
-      (sends .1
-      ∙ ap (λ (v : Verdict). byVerdict v (sentLine (editionOf edition) bytes start ++ drop (length (sentLine (editionOf edition) bytes start)) room) (λ number place. room)) ok)
-      ∙ take-at (sentLine (editionOf edition) bytes start) (drop (length (sentLine (editionOf edition) bytes start)) room) (33 * (length bytes / 40)) (length-line edition bytes start)
 
   module _ (out out′ : List ℕ) (r : Received) (receives : Receives edition (take (33 * (length bytes / 40)) room′) out r out′) (enough : length bytes ≤ length out) where
     -- so what was received is the line
     receives-line : Receives edition (sentLine (editionOf edition) bytes start) out r out′
-    receives-line = subst (λ (line : List ℕ). Receives edition line out r out′) line-stands receives
+    receives-line = subst (λ (line : List ℕ). Receives edition line out r out′) (line-stands edition bytes start room room′ s sends) receives
 
     -- neither refusal of receiving applies
-    received-too : first (Receiving.receiveChecks edition (length (sentLine (editionOf edition) bytes start)) (length out)) ≡ accepted
-    unfolding first Receiving.receiveChecks
-    received-too =
-        rw (
-          le-ltb 1 edition (known edition bytes start (length room) ok),
-          length-line edition bytes start,
-          le-ltb 825000 (33 * (length bytes / 40)) (omega (arith, not-long edition bytes start (length room) ok)),
-          le-ltb (length out) (10 * (8 * (33 * (length bytes / 40)) / 66)) (omega (arith, enough)),
-        )
+    too : first (Receiving.receiveChecks edition (length (sentLine (editionOf edition) bytes start)) (length out)) ≡ accepted
+    too =
+        let size = length-sent edition bytes start in
+        received-too edition (length (sentLine (editionOf edition) bytes start)) (length out) (known edition bytes start (length room) ok)
+        (omega (arith, size, not-long edition bytes start (length room) ok)) (subst (λ (n : ℕ). 10 * (8 * n / 66) ≤ length out) (sym size) (omega (arith, enough)))
 
     -- the answer
     answer-is : r ≡ Received.Done (Receiving.summaryOf (editionOf edition) (sentLine (editionOf edition) bytes start))
@@ -89,10 +95,10 @@ module _ (edition : ℕ) (bytes : List ℕ) (start : ℕ) (room room′ : List �
     answer-is =
         received-is r (Receiving.summaryOf (editionOf edition) (sentLine (editionOf edition) bytes start))
         (receives-line .0
-        ∙ ap (λ (v : Verdict). byVerdict v (Receiving.received (Receiving.summaryOf (editionOf edition) (sentLine (editionOf edition) bytes start))) Receiving.refused) received-too)
+        ∙ ap (λ (v : Verdict). byVerdict v (Receiving.received (Receiving.summaryOf (editionOf edition) (sentLine (editionOf edition) bytes start))) Receiving.refused) too)
 
     -- its values
-    values-are : Unbroken (length (Send.vectorsOf bytes)) (Receiving.summaryOf (editionOf edition) (sentLine (editionOf edition) bytes start))
+    values-are : Unbroken (length (vectorList bytes)) (Receiving.summaryOf (editionOf edition) (sentLine (editionOf edition) bytes start))
     values-are = demand-2 edition bytes start (length room) ok list .summary
 
     -- 64 vectors and more
@@ -111,9 +117,9 @@ module _ (edition : ℕ) (bytes : List ℕ) (start : ℕ) (room room′ : List �
         receives-line .1
         ∙ ap
         (λ (v : Verdict). byVerdict v
-        (Receive.receivedVectors (editionOf edition) (sentLine (editionOf edition) bytes start) ++ drop (length (Receive.receivedVectors (editionOf edition) (sentLine (editionOf edition) bytes start))) out)
+        (receivedVectors (editionOf edition) (sentLine (editionOf edition) bytes start) ++ drop (length (receivedVectors (editionOf edition) (sentLine (editionOf edition) bytes start))) out)
         (λ number place. out))
-        received-too
+        too
         ∙ ap (λ (xs : List ℕ). xs ++ drop (length xs) out) (demand-2 edition bytes start (length room) ok list .octets)
         ∙ ap (λ (n : ℕ). flatten faults ++ drop 630 bytes ++ drop n out) length-octets
 

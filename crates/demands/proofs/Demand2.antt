@@ -6,12 +6,12 @@ use Prim.Native.Nat.{ℕ, zero, suc, _-_, _*_, _/_, _^_, _<_}
 use native.Mathlib.Omega.{arith}
 use lib.ListN.{length, take, drop, replicate, length-drop, take-append-drop}
 use lib.Seq.{length-take-le}
-use Rattle.sending.proofs.Laws.{length-vectors, length-blocks}
+use Rattle.transmit.proofs.Laws.{length-vectors, length-blocks}
 use Rattle.bits.specs.Bits.{streamBit, cut}
 use Rattle.scrambler.specs.Scrambler.{mirror, scrambled, descrambled}
 use Rattle.scrambler.proofs.Laws.{mirror-lt}
 use Rattle.line.specs.declared.Block.{Block}
-use Rattle.line.specs.Word.{word}
+use Rattle.line.specs.BlockNumber.{blockNumber}
 use Rattle.block.specs.declared.Edition.{Edition}
 use Rattle.block.specs.Block.{editionOf, isC, vectorKind, localFaultVector}
 use Rattle.block.specs.declared.Kind.{Kind}
@@ -19,20 +19,18 @@ use Rattle.block.specs.declared.Kind.the-variants.{D, C, S, T, LI, E}
 use Rattle.diagrams.specs.Diagram.{transmitOf, diagramOf, afterIdle}
 use Rattle.diagrams.specs.declared.State.{State}
 use Rattle.diagrams.specs.declared.State.the-variants.{Init, Control}
-use Rattle.sending.specs.Send as Send
-use Rattle.sending.specs.Send.{blockIn, sentBlocks, blocksFor, sentLine}
+use Rattle.transmit.specs.Send.{blockIn, sentBlocks, blocksFor, sentLine, vectorList}
 use Rattle.receiving.specs.Machine.{Tested, linkFresh}
-use Rattle.receiving.specs.Receive as Receive
-use Rattle.receiving.specs.Receive.{answers}
+use Rattle.receiving.specs.Receive.{answers, receivedVectors, vectorsOf}
 use Rattle.receiving.specs.Answer.{summaryOf}
 use Rattle.receiving.specs.declared.Link.{Link}
-use Rattle.demands.specs.Words.{accepts, legal, legalFrom, controlVector, controlVectors, Unbroken}
+use Rattle.demands.specs.Words.{SendAccepts, legal, legalFrom, controlVector, controlVectors, Unbroken}
 use Rattle.demands.specs.Demand2.{Returnable, faults, Demand2}
 use Rattle.demands.proofs.Line.{AllFit}
 use Rattle.demands.proofs.Runs.{testedAll, valids, length-tested}
 use Rattle.demands.proofs.Lock.{invalids, FirstValid, Locks, lock-by-64}
 use Rattle.demands.proofs.Fresh.{fresh-vectors, fresh-summary}
-use Rattle.demands.proofs.Descrambling.{Reads, reads, descrambledBlocks, lineBlocks, line-words, length-line, line-valids, line-fits, late-start}
+use Rattle.demands.proofs.Descrambling.{ReadAs, reads, descrambledBlocks, lineBlocks, line-words, length-line, line-valids, line-fits, late-start}
 use Rattle.demands.proofs.Answers.{Carries, not-locked, unchanged, legal-tail, and-left, and-right}
 use Rattle.demands.proofs.Sent.{Vectors, sent-fit, sent-valid, sent-first, carried}
 use Rattle.demands.proofs.Accepted.{four-each, ten-each, vectors-well, drop-vectors, flat-vectors}
@@ -106,23 +104,23 @@ module _ (ed : Edition) where
       s : State
       s = transmitOf Init (vectorKind ed v)
 
-      rest : Reads ed (record { header = blockIn ed s v .header; payload = descrambled (scrambled (blockIn ed s v .payload) h) (l .history) } ∷ sentBlocks ed s vs)
+      rest : ReadAs ed (record { header = blockIn ed s v .header; payload = descrambled (scrambled (blockIn ed s v .payload) h) (l .history) } ∷ sentBlocks ed s vs)
           (testedAll l (lineBlocks h (blockIn ed s v ∷ sentBlocks ed s vs)))
       rest =
-          subst (λ (bs : List Block). Reads ed bs (testedAll l (lineBlocks h (blockIn ed s v ∷ sentBlocks ed s vs))))
+          subst (λ (bs : List Block). ReadAs ed bs (testedAll l (lineBlocks h (blockIn ed s v ∷ sentBlocks ed s vs))))
           (late-start h (l .history) hb lb (blockIn ed s v) (sentBlocks ed s vs) (sent-fit ed s vs))
-          (subst (λ (e : Edition). Reads e (descrambledBlocks (l .history) (lineBlocks h (blockIn ed s v ∷ sentBlocks ed s vs))) (testedAll l (lineBlocks h (blockIn ed s v ∷ sentBlocks ed s vs)))) el (reads l (lineBlocks h (blockIn ed s v ∷ sentBlocks ed s vs))))
+          (subst (λ (e : Edition). ReadAs e (descrambledBlocks (l .history) (lineBlocks h (blockIn ed s v ∷ sentBlocks ed s vs))) (testedAll l (lineBlocks h (blockIn ed s v ∷ sentBlocks ed s vs)))) el (reads l (lineBlocks h (blockIn ed s v ∷ sentBlocks ed s vs))))
 
 -- ---- the theorem
 
-module _ (edition : ℕ) (bytes : List ℕ) (start room : ℕ) (ok : accepts edition bytes start room) (list : Returnable (editionOf edition) (Send.vectorsOf bytes)) where
+module _ (edition : ℕ) (bytes : List ℕ) (start room : ℕ) (ok : SendAccepts edition bytes start room) (list : Returnable (editionOf edition) (vectorList bytes)) where
   -- the edition at both ends
   abbrev ed : Edition
   ed = editionOf edition
 
   -- the vectors that are sent
   abbrev vs : List (List ℕ)
-  vs = Send.vectorsOf bytes
+  vs = vectorList bytes
 
   -- the blocks on the line
   abbrev bs : List Block
@@ -153,7 +151,7 @@ module _ (edition : ℕ) (bytes : List ℕ) (start room : ℕ) (ok : accepts edi
   locks = lock-by-64 ed bs first few
 
   -- the line is made of these blocks
-  line-is : sentLine ed bytes start ≡ cut 8 (streamBit 66 (map word bs)) (33 * (length bytes / 40))
+  line-is : sentLine ed bytes start ≡ cut 8 (streamBit 66 (map blockNumber bs)) (33 * (length bytes / 40))
   unfolding sentLine blocksFor
   line-is = ap (λ (ws : List ℕ). cut 8 (streamBit 66 ws) (33 * (length bytes / 40))) (line-words (mirror start) (sentBlocks ed Init vs))
 
@@ -172,9 +170,9 @@ module _ (edition : ℕ) (bytes : List ℕ) (start room : ℕ) (ok : accepts edi
       (carries-late ed 62 (linkFresh ed) (mirror start) vs refl (omega arith) (mirror-lt start) (vectors-well edition bytes start room ok) (list .is-legal))
 
   -- the vectors
-  vectors-back : Receive.vectorsOf ed (sentLine ed bytes start) ≡ faults ++ drop 63 vs
+  vectors-back : vectorsOf ed (sentLine ed bytes start) ≡ faults ++ drop 63 vs
   vectors-back =
-      ap (Receive.vectorsOf ed) line-is ∙ fresh-vectors ed bs (length bytes / 40) fits four first few
+      ap (vectorsOf ed) line-is ∙ fresh-vectors ed bs (length bytes / 40) fits four first few
       ∙ ap (answers Init) (sym (take-append-drop 63 ts))
       ∙ not-locked (take 63 ts) (drop 63 ts) (locks .before)
       ∙ ap₂ (λ (n : ℕ) (rest : List (List ℕ)). replicate n localFaultVector ++ rest) long-enough back
@@ -185,8 +183,8 @@ module _ (edition : ℕ) (bytes : List ℕ) (start room : ℕ) (ok : accepts edi
       subst₂ (λ (n : ℕ) (line : List ℕ). Unbroken n (summaryOf ed line)) count (sym line-is) (fresh-summary ed bs (length bytes / 40) fits four first few)
 
   -- the bytes
-  octets-back : Receive.receivedVectors ed (sentLine ed bytes start) ≡ flatten faults ++ drop 630 bytes
-  unfolding Receive.receivedVectors
+  octets-back : receivedVectors ed (sentLine ed bytes start) ≡ flatten faults ++ drop 630 bytes
+  unfolding receivedVectors
   octets-back =
       ap flatten vectors-back ∙ flat-append faults (drop 63 vs)
       ∙ ap (λ (rest : List ℕ). flatten faults ++ rest)

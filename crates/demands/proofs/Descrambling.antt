@@ -7,10 +7,10 @@ use lib.ListN.{length}
 use Rattle.scrambler.specs.Scrambler.{scrambled, historyAfter, descrambled, lineAfter, descrambledAll}
 use Rattle.scrambler.proofs.Laws.{scrambled-lt, descrambled-scrambled, line-scrambled, lineAfter-forget}
 use Rattle.line.specs.declared.Block.{Block}
-use Rattle.line.specs.Word.{word}
+use Rattle.line.specs.BlockNumber.{blockNumber}
 use Rattle.block.specs.declared.Edition.{Edition}
 use Rattle.block.specs.Block.{kindOf, decoded, kindIn}
-use Rattle.sending.specs.Send.{scrambledBlock, lineWords}
+use Rattle.transmit.specs.Send.{scrambledBlock, lineWords}
 use Rattle.receiving.specs.Machine.{Tested, validOf, linkOf, testedOf}
 use Rattle.receiving.specs.declared.Link.{Link}
 use Rattle.receiving.proofs.Reasons.{kind-tested}
@@ -25,14 +25,14 @@ descrambledBlocks h [] = []
 descrambledBlocks h (b ∷ bs) = record { header = b .header; payload = descrambled (b .payload) h } ∷ descrambledBlocks (lineAfter (b .payload) h) bs
 
 -- each tested block has the kind and the vector of the block at its place
-abbrev pub Reads : Edition → List Block → List Tested → Type 0
-Reads ed [] [] = Unit
-Reads ed [] (t ∷ ts) = ⊥
-Reads ed (b ∷ bs) [] = ⊥
-Reads ed (b ∷ bs) (t ∷ ts) = (kindIn (t .class) ≡ kindOf ed (b .header) (b .payload)) × (t .vector ≡ decoded ed (b .header) (b .payload)) × Reads ed bs ts
+abbrev pub ReadAs : Edition → List Block → List Tested → Type 0
+ReadAs ed [] [] = Unit
+ReadAs ed [] (t ∷ ts) = ⊥
+ReadAs ed (b ∷ bs) [] = ⊥
+ReadAs ed (b ∷ bs) (t ∷ ts) = (kindIn (t .class) ≡ kindOf ed (b .header) (b .payload)) × (t .vector ≡ decoded ed (b .header) (b .payload)) × ReadAs ed bs ts
 
 -- the tested blocks are those of the line, descrambled
-pub reads : (l : Link) (bs : List Block) → Reads (l .edition) (descrambledBlocks (l .history) bs) (testedAll l bs)
+pub reads : (l : Link) (bs : List Block) → ReadAs (l .edition) (descrambledBlocks (l .history) bs) (testedAll l bs)
 unfolding descrambledBlocks testedAll testedOf linkOf
 reads l [] = tt
 reads l (b ∷ bs) = (kind-tested l (b .header) (b .payload), refl, reads (linkOf l (b .header) (b .payload)) bs)
@@ -51,10 +51,10 @@ lineBlocks h [] = []
 lineBlocks h (b ∷ bs) = scrambledBlock b h ∷ lineBlocks (historyAfter (b .payload) h) bs
 
 -- as words of 66 bits
-pub line-words : (h : ℕ) (bs : List Block) → lineWords h bs ≡ map word (lineBlocks h bs)
+pub line-words : (h : ℕ) (bs : List Block) → lineWords h bs ≡ map blockNumber (lineBlocks h bs)
 unfolding lineWords lineBlocks
 line-words h [] = refl
-line-words h (b ∷ bs) = ap (λ (ws : List ℕ). word (scrambledBlock b h) ∷ ws) (line-words (historyAfter (b .payload) h) bs)
+line-words h (b ∷ bs) = ap (λ (ws : List ℕ). blockNumber (scrambledBlock b h) ∷ ws) (line-words (historyAfter (b .payload) h) bs)
 
 -- one for each block
 pub length-line : (h : ℕ) (bs : List Block) → length (lineBlocks h bs) ≡ length bs

@@ -5,7 +5,7 @@ use Prim.Native.Nat.{ℕ, suc, _*_, _<_}
 use lib.ListN.{length, length-map}
 use Rattle.bits.specs.Bits.{streamBit, cut}
 use Rattle.line.specs.declared.Block.{Block}
-use Rattle.line.specs.Word.{word}
+use Rattle.line.specs.BlockNumber.{blockNumber}
 use Rattle.block.specs.declared.Edition.{Edition}
 use Rattle.diagrams.specs.declared.State.{State}
 use Rattle.diagrams.specs.declared.State.the-variants.{Init}
@@ -27,7 +27,7 @@ module _ (ed : Edition) (bs : List Block) (groups : ℕ) (fits : AllFit bs) (fou
     (first : FirstValid 64 (valids bs)) (few : invalids (valids bs) < 16) where
   -- four blocks in 33 bytes
   abbrev line : List ℕ
-  line = cut 8 (streamBit 66 (map word bs)) (33 * groups)
+  line = cut 8 (streamBit 66 (map blockNumber bs)) (33 * groups)
 
   -- the receiver locks with block 63
   locks : Locks 63 (linkFresh ed) bs
@@ -37,7 +37,7 @@ module _ (ed : Edition) (bs : List Block) (groups : ℕ) (fits : AllFit bs) (fou
   pub fresh-run : runOf ed line ≡ record { tested = testedAll (linkFresh ed) bs; end = at (linkAfter (linkFresh ed) bs) }
   unfolding runOf
   fresh-run =
-      ap (run (at (linkFresh ed))) (line-bits (map word bs) groups (length-map bs word ∙ four))
+      ap (run (at (linkFresh ed))) (line-bits (map blockNumber bs) groups (length-map bs blockNumber ∙ four))
       ∙ run-words (linkFresh ed) bs fits (locks .steady)
 
   -- its vectors are those of these blocks

@@ -7,8 +7,6 @@ pub mod Answers
 pub mod Octets
 pub mod Sent
 pub mod Accepted
-pub mod Demand1
-pub mod ThroughC
 pub mod Demand2
 pub mod Calls
 pub mod Witness

@@ -8,7 +8,7 @@ use Rattle.bits.specs.Bits.{bit, streamBit, cut, listed, lineBits}
 use Rattle.bits.proofs.Laws.{bit-below, bit-above, is-number, number-same, stream-lt, stream-head, stream-tail}
 use Rattle.bits.proofs.Lists.{listed-at, listed-same, listed-add, lineBits-cut}
 use Rattle.line.specs.declared.Block.{Block}
-use Rattle.line.specs.Word.{word}
+use Rattle.line.specs.BlockNumber.{blockNumber}
 use Rattle.receiving.specs.Machine.{headerOf, payloadOf}
 
 -- ---- the bits of 66-bit words, one word after another
@@ -43,35 +43,35 @@ line-bits ws groups e =
 -- ---- one block
 
 -- a header of two bits and a payload of 64
-abbrev pub Fits : Block → Type 0
-Fits b = (b .header < 4) × (b .payload < 2 ^ 64)
+abbrev pub BlockFits : Block → Type 0
+BlockFits b = (b .header < 4) × (b .payload < 2 ^ 64)
 
 -- each block of a list
 abbrev pub AllFit : List Block → Type 0
 AllFit [] = Unit
-AllFit (b ∷ bs) = Fits b × AllFit bs
+AllFit (b ∷ bs) = BlockFits b × AllFit bs
 
 -- the bits of a block
-abbrev pub blockBits : Block → List ℕ
-blockBits b = listed 66 (bit (word b))
+abbrev pub bitsOfBlock : Block → List ℕ
+bitsOfBlock b = listed 66 (bit (blockNumber b))
 
-module _ (b : Block) (fits : Fits b) where
+module _ (b : Block) (fits : BlockFits b) where
   -- the payload stands above the header
-  whole : word b ≡ b .payload * 2 ^ 2 + b .header
+  whole : blockNumber b ≡ b .payload * 2 ^ 2 + b .header
   whole = omega arith
 
   -- the header back from the bits
-  pub header-back : headerOf (blockBits b) ≡ b .header
+  pub header-back : headerOf (bitsOfBlock b) ≡ b .header
   header-back =
-      number-same 2 (λ i. getD (blockBits b) i 0) (bit (b .header))
-      (λ i l. listed-at 66 (bit (word b)) i (omega arith) ∙ ap (λ (x : ℕ). bit x i) whole ∙ bit-below (b .payload) 2 (b .header) i l)
+      number-same 2 (λ i. getD (bitsOfBlock b) i 0) (bit (b .header))
+      (λ i l. listed-at 66 (bit (blockNumber b)) i (omega arith) ∙ ap (λ (x : ℕ). bit x i) whole ∙ bit-below (b .payload) 2 (b .header) i l)
       ∙ sym (is-number 2 (b .header) (bit (b .header)) (omega arith) (λ i l. refl))
 
   -- the payload back from the bits
-  pub payload-back : payloadOf (blockBits b) ≡ b .payload
+  pub payload-back : payloadOf (bitsOfBlock b) ≡ b .payload
   payload-back =
-      number-same 64 (λ i. getD (blockBits b) (2 + i) 0) (bit (b .payload))
+      number-same 64 (λ i. getD (bitsOfBlock b) (2 + i) 0) (bit (b .payload))
       (λ i l.
-      listed-at 66 (bit (word b)) (2 + i) (omega arith) ∙ ap (λ (x : ℕ). bit x (2 + i)) whole
+      listed-at 66 (bit (blockNumber b)) (2 + i) (omega arith) ∙ ap (λ (x : ℕ). bit x (2 + i)) whole
       ∙ bit-above (b .payload) 2 (b .header) i (omega arith))
       ∙ sym (is-number 64 (b .payload) (bit (b .payload)) (omega arith) (λ i l. refl))

@@ -11,10 +11,10 @@ use borrow.Author.Tests.{lt-leb, le-leb}
 use Rattle.bits.proofs.Laws.{by-lt}
 use Rattle.line.specs.declared.Block.{Block}
 use Rattle.block.specs.declared.Edition.{Edition}
-use Rattle.diagrams.specs.Lock.{slipsOf, lockOf, countedOf, invalidOf}
-use Rattle.diagrams.specs.Rate.{rateFresh, rateOf, windowOf}
-use Rattle.diagrams.specs.declared.Lock.{Lock}
-use Rattle.diagrams.specs.declared.Rate.{Rate}
+use Rattle.lock.specs.Lock.{slipsOf, lockOf, countedOf, invalidOf}
+use Rattle.lock.specs.Rate.{rateFresh, rateOf, windowOf}
+use Rattle.lock.specs.declared.Lock.{Lock}
+use Rattle.lock.specs.declared.Rate.{Rate}
 use Rattle.receiving.specs.Machine.{Tested, linkFresh, validOf, linkOf, testedOf}
 use Rattle.receiving.specs.declared.Link.{Link}
 use Rattle.demands.proofs.Runs.{linkAfter, testedAll, valids, Steady, length-tested}
@@ -48,12 +48,12 @@ pub record Locks (i : ℕ) (l : Link) (bs : List Block) : Type 0 where
 -- ---- in lock, with fewer than 16 invalid headers to come
 
 -- locked, and with n more invalid headers still fewer than 16
-record InLock (n : ℕ) (l : Lock) : Type 0 where
+record StaysLocked (n : ℕ) (l : Lock) : Type 0 where
   locked : l .locked ≡ true
   few : l .invalid + n < 16
 
 -- not high, and with n more invalid headers still fewer than 16
-record InRate (n : ℕ) (r : Rate) : Type 0 where
+record StaysCalm (n : ℕ) (r : Rate) : Type 0 where
   calm : r .high ≡ false
   few : r .invalid + n < 16
 
@@ -73,31 +73,31 @@ and-false true = refl
 and-false false = refl
 
 -- such a lock does not slip
-no-slip : (n : ℕ) (l : Lock) (v : Bool) → InLock (invalidOf v + n) l → slipsOf l v ≡ false
+no-slip : (n : ℕ) (l : Lock) (v : Bool) → StaysLocked (invalidOf v + n) l → slipsOf l v ≡ false
 unfolding slipsOf
 no-slip n l v h = rw (lt-leb 16 (l .invalid + invalidOf v) (omega (arith, h .few)), h .locked) (and-false (not v))
 
 -- it stays locked
-lock-stays : (n : ℕ) (l : Lock) (v : Bool) → InLock (invalidOf v + n) l → InLock n (lockOf l v)
+lock-stays : (n : ℕ) (l : Lock) (v : Bool) → StaysLocked (invalidOf v + n) l → StaysLocked n (lockOf l v)
 unfolding lockOf countedOf
 lock-stays n l v h =
     rw (no-slip n l v h)
-    (either (InLock n) (leb 64 (l .tested + 1)) _ _
+    (either (StaysLocked n) (leb 64 (l .tested + 1)) _ _
     (record { locked = rw (h .locked) (or-true (eqb (l .invalid + invalidOf v) 0)); few = omega (arith, h .few) })
     (record { locked = h .locked; few = omega (arith, h .few) }))
 
 -- the error rate stays not high
-rate-stays : (n : ℕ) (r : Rate) (before after v : Bool) → n < 16 → InRate (invalidOf v + n) r → InRate n (rateOf r before after v)
+rate-stays : (n : ℕ) (r : Rate) (before after v : Bool) → n < 16 → StaysCalm (invalidOf v + n) r → StaysCalm n (rateOf r before after v)
 unfolding rateOf windowOf
 rate-stays n r before after v m h =
-    either (InRate n) (after && before) _ _
-    (either (InRate n) (leb 19531 (r .blocks + 1)) _ _
+    either (StaysCalm n) (after && before) _ _
+    (either (StaysCalm n) (leb 19531 (r .blocks + 1)) _ _
     (record { calm = lt-leb 16 (r .invalid + invalidOf v) (omega (arith, h .few)); few = omega arith })
     (record { calm = rw (lt-leb 16 (r .invalid + invalidOf v) (omega (arith, h .few))) (h .calm); few = omega (arith, h .few) }))
     (record { calm = refl; few = omega arith })
 
 -- so the block is answered
-on-then : (l : Link) (h p n : ℕ) → InLock n (linkOf l h p .lock) → InRate n (linkOf l h p .rate) → testedOf l h p .on ≡ true
+on-then : (l : Link) (h p n : ℕ) → StaysLocked n (linkOf l h p .lock) → StaysCalm n (linkOf l h p .rate) → testedOf l h p .on ≡ true
 unfolding testedOf
 on-then l h p n a b = rw (a .locked, b .calm)
 
@@ -109,7 +109,7 @@ unfolding linkAfter valids linkOf
 more i j l b bs c before after r = record { steady = (c, r .steady); before = before; after = after; locked = r .locked; calm = r .calm }
 
 -- and so over all the blocks to come
-stays : (l : Link) (bs : List Block) → InLock (invalids (valids bs)) (l .lock) → InRate (invalids (valids bs)) (l .rate) → Locks 0 l bs
+stays : (l : Link) (bs : List Block) → StaysLocked (invalids (valids bs)) (l .lock) → StaysCalm (invalids (valids bs)) (l .rate) → Locks 0 l bs
 unfolding linkAfter testedAll valids invalids linkOf
 stays l [] a b = record { steady = tt; before = tt; after = tt; locked = a .locked; calm = b .calm }
 stays l (b ∷ bs) x y = next x′ y′ (stays l′ bs x′ y′)
@@ -120,13 +120,13 @@ stays l (b ∷ bs) x y = next x′ y′ (stays l′ bs x′ y′)
     l′ : Link
     l′ = linkOf l (b .header) (b .payload)
 
-    x′ : InLock n (l′ .lock)
+    x′ : StaysLocked n (l′ .lock)
     x′ = lock-stays n (l .lock) (validOf (b .header)) x
 
-    y′ : InRate n (l′ .rate)
+    y′ : StaysCalm n (l′ .rate)
     y′ = rate-stays n (l .rate) (l .lock .locked) (l′ .lock .locked) (validOf (b .header)) (omega (arith, x′ .few)) y
 
-    next : InLock n (l′ .lock) → InRate n (l′ .rate) → Locks 0 l′ bs → Locks 0 l (b ∷ bs)
+    next : StaysLocked n (l′ .lock) → StaysCalm n (l′ .rate) → Locks 0 l′ bs → Locks 0 l (b ∷ bs)
     next u w r =
         more 0 0 l b bs (no-slip n (l .lock) (validOf (b .header)) x) tt (on-then l (b .header) (b .payload) n u w, r .after) r
 
@@ -197,10 +197,10 @@ gets j zero l (b ∷ bs) e c f m = next (stays l′ bs x y)
     l′ : Link
     l′ = linkOf l (b .header) (b .payload)
 
-    x : InLock n (l′ .lock)
+    x : StaysLocked n (l′ .lock)
     x = rw (gains-lock j l (b .header) (b .payload) c (f .0) (omega arith)) (record { locked = refl; few = omega arith })
 
-    y : InRate n (l′ .rate)
+    y : StaysCalm n (l′ .rate)
     y = rw (gains-rate j l (b .header) (b .payload) c (f .0) (omega arith)) (record { calm = refl; few = omega arith })
 
     next : Locks 0 l′ bs → Locks 0 l (b ∷ bs)

@@ -11,7 +11,7 @@ use borrow.Author.Tests.{ne-eqb, eqb-true}
 use Rattle.bits.proofs.Laws.{by-lt}
 use Rattle.block.specs.declared.Edition.{Edition}
 use Rattle.block.specs.declared.Edition.the-variants.{Old, New}
-use Rattle.block.specs.Block.{Slot, Control, Calm, Data, Set, Start, Terminate, Field, Format, block, none, controlsIn, kindFor, sets, without, codeIn, codeOf, codeFor, controlBit, laneOf, flagOf, sentCode, carries, carrierBy, payloadOf, carrier}
+use Rattle.block.specs.Block.{Slot, Control, Calm, Data, Set, Start, Terminate, Field, Format, block, none, controlsIn, kindFor, sets, without, codeIn, codeOf, codeFor, controlBit, laneOf, flagOf, sentCode, carries, carrierBy, payloadFor, carrier}
 use Rattle.block.specs.declared.Kind.{Kind}
 use Rattle.block.specs.Rows.{formats}
 use Rattle.block.proofs.Tests.{both-left, both-right, all, every, is-true}
@@ -71,7 +71,7 @@ module _ (ed : Edition) where
         never w = let z : _≡_ {A = ℕ} 0 1 = cc in omega arith
     lanes (f ∷ fs) t k h x e p l = go (carries ed v (f .fields)) refl e (λ r. lanes fs (both-right (all (sound f)) (every (λ f. all (sound f)) fs) t) k h x r p l)
       where
-        go : (b : Bool) → carries ed v (f .fields) ≡ b → cond b (block (kindFor f v) (f .header) (payloadOf ed v f)) (carrierBy ed fs v) ≡ block k h x
+        go : (b : Bool) → carries ed v (f .fields) ≡ b → cond b (block (kindFor f v) (f .header) (payloadFor ed v f)) (carrierBy ed fs v) ≡ block k h x
             → (carrierBy ed fs v ≡ block k h x → laneOf v p < 256) → laneOf v p < 256
         go true q e ih = lane (f .fields) p (sound-has f (both-left (all (sound f)) (every (λ f. all (sound f)) fs) t) p l) (is-true q)
         go false q e ih = ih e

@@ -7,14 +7,14 @@ use native.Mathlib.Omega.{arith}
 use lib.ListN.{length}
 use Rattle.bits.proofs.Lists.{length-listed}
 use Rattle.line.specs.declared.Block.{Block}
-use Rattle.line.specs.Word.{word}
-use Rattle.diagrams.specs.Lock.{slipsOf, lockOf}
-use Rattle.diagrams.specs.declared.Lock.{Lock}
+use Rattle.line.specs.BlockNumber.{blockNumber}
+use Rattle.lock.specs.Lock.{slipsOf, lockOf}
+use Rattle.lock.specs.declared.Lock.{Lock}
 use Rattle.receiving.specs.Receive.{howMany}
 use Rattle.receiving.specs.Machine.{Tested, run, at, validOf, linkOf, testedOf}
 use Rattle.receiving.specs.declared.Link.{Link}
-use Rattle.receiving.proofs.Runs.{after, run-fill}
-use Rattle.demands.proofs.Line.{wordBits, bits-none, bits-more, blockBits, Fits, AllFit, header-back, payload-back}
+use Rattle.receiving.proofs.Runs.{runBehind, run-fill}
+use Rattle.demands.proofs.Line.{wordBits, bits-none, bits-more, bitsOfBlock, BlockFits, AllFit, header-back, payload-back}
 
 -- ---- a block after another, from a link
 
@@ -41,23 +41,23 @@ Steady l (v ∷ vs) = (slipsOf l v ≡ false) × Steady (lockOf l v) vs
 -- ---- one block, with no slip
 
 -- the 66 bits of a block test it
-one : (l : Link) (b : Block) (rest : List ℕ) → Fits b → slipsOf (l .lock) (validOf (b .header)) ≡ false
-    → run (at l) (blockBits b ++ rest) ≡ after (testedOf l (b .header) (b .payload) ∷ []) (run (at (linkOf l (b .header) (b .payload))) rest)
+one : (l : Link) (b : Block) (rest : List ℕ) → BlockFits b → slipsOf (l .lock) (validOf (b .header)) ≡ false
+    → run (at l) (bitsOfBlock b ++ rest) ≡ runBehind (testedOf l (b .header) (b .payload) ∷ []) (run (at (linkOf l (b .header) (b .payload))) rest)
 one l b rest fits calm =
-    run-fill l [] (blockBits b) rest (rw length-listed) (rw length-listed (omega arith))
+    run-fill l [] (bitsOfBlock b) rest (rw length-listed) (rw length-listed (omega arith))
     ∙ rw (header-back b fits, payload-back b fits, calm)
 
 -- ---- a list of blocks
 
 -- the bits of blocks with no slip on the way test these blocks
 pub run-words : (l : Link) (bs : List Block) → AllFit bs → Steady (l .lock) (valids bs)
-    → run (at l) (wordBits (map word bs)) ≡ record { tested = testedAll l bs; end = at (linkAfter l bs) }
+    → run (at l) (wordBits (map blockNumber bs)) ≡ record { tested = testedAll l bs; end = at (linkAfter l bs) }
 unfolding run testedAll linkAfter valids linkOf
 run-words l [] fits calm = rw bits-none
 run-words l (b ∷ bs) fits calm =
-    ap (run (at l)) (bits-more (word b) (map word bs))
-    ∙ one l b (wordBits (map word bs)) (fits .0) (calm .0)
-    ∙ ap (after (testedOf l (b .header) (b .payload) ∷ [])) (run-words (linkOf l (b .header) (b .payload)) bs (fits .1) (calm .1))
+    ap (run (at l)) (bits-more (blockNumber b) (map blockNumber bs))
+    ∙ one l b (wordBits (map blockNumber bs)) (fits .0) (calm .0)
+    ∙ ap (runBehind (testedOf l (b .header) (b .payload) ∷ [])) (run-words (linkOf l (b .header) (b .payload)) bs (fits .1) (calm .1))
 
 -- one tested block for each block
 pub length-tested : (l : Link) (bs : List Block) → length (testedAll l bs) ≡ length bs

@@ -1,42 +1,39 @@
 -- The blocks that sending sends: their fields fit, their headers are valid, and read as they were sent they give the vectors back. Assumes nothing.
 use mathlib.Core.Path.{_≡_, refl, sym, ap, _∙_, subst}
-use mathlib.Core.Bool.{true, false, not, _&&_, true≢false}
+use mathlib.Core.Bool.{true, false, true≢false}
 use mathlib.Core.List.{List, [], _∷_}
 use mathlib.Core.Logic.{_⊎_, inl, inr}
-use Prim.Native.Nat.{ℕ, zero, suc, _+_, _≤_, _<_}
+use Prim.Native.Nat.{ℕ, zero, suc, _≤_, _<_}
 use native.Mathlib.Omega.{arith}
-use lib.Dec.{eqb}
 use lib.ListN.{length, getD}
-use borrow.Author.Tests.{ne-eqb}
 use Rattle.diagrams.proofs.Laws.{error-any}
 use Rattle.bits.specs.Bits.{bit}
 use Rattle.line.specs.declared.Block.{Block}
 use Rattle.block.specs.declared.Edition.{Edition}
 use Rattle.block.specs.Block.{Carrier, block, none, carrier, vectorKind, kindOf, decoded}
-use Rattle.block.specs.declared.Kind.the-variants.{E}
 use Rattle.block.proofs.Sending.{carrier-header, carrier-fits, round-trip}
-use Rattle.diagrams.specs.Diagram.{transmitOf, diagramOf, afterIdle, afterData, afterError}
-use Rattle.diagrams.specs.Lock.{invalidOf}
+use Rattle.diagrams.specs.Diagram.{transmitOf}
+use Rattle.lock.specs.Lock.{invalidOf}
 use Rattle.diagrams.specs.declared.State.{State}
 use Rattle.diagrams.specs.declared.State.the-variants.{Init, Control, Data, Terminate, Error, LowPower}
-use Rattle.sending.specs.Send.{errorBlock, ownBlock, blockIn, sentBlocks, replacedIn, replaced}
+use Rattle.transmit.specs.Send.{errorBlock, ownBlock, blockIn, sentBlocks}
 use Rattle.receiving.specs.Machine.{Tested, validOf}
-use Rattle.demands.specs.Words.{isError, legalFrom}
-use Rattle.demands.proofs.Line.{Fits, AllFit}
+use Rattle.demands.specs.Words.{inError, legalFrom}
+use Rattle.demands.proofs.Line.{BlockFits, AllFit}
 use Rattle.demands.proofs.Runs.{valids}
 use Rattle.demands.proofs.Lock.{invalids, FirstValid}
 use Rattle.demands.proofs.Octets.{octets}
-use Rattle.demands.proofs.Descrambling.{Reads}
+use Rattle.demands.proofs.Descrambling.{ReadAs}
 use Rattle.demands.proofs.Answers.{Carries, legal-head, legal-tail}
 
 -- ---- one block
 
 -- its fields fit, and its header is valid
-abbrev Sound : Block → Type 0
-Sound b = Fits b × (validOf (b .header) ≡ true)
+abbrev FitsAndValid : Block → Type 0
+FitsAndValid b = BlockFits b × (validOf (b .header) ≡ true)
 
 -- the block of state E
-error-sound : Sound errorBlock
+error-sound : FitsAndValid errorBlock
 unfolding validOf bit
 error-sound = ((omega arith, omega arith), refl)
 
@@ -59,15 +56,15 @@ Vectors (v ∷ vs) = Vector v × Vectors vs
 
 module _ (ed : Edition) where
   -- a vector's own block
-  own-sound : (v : List ℕ) → Sound (ownBlock (carrier ed v))
+  own-sound : (v : List ℕ) → FitsAndValid (ownBlock (carrier ed v))
   own-sound v = go (carrier ed v) refl
     where
-      go : (c : Carrier) → carrier ed v ≡ c → Sound (ownBlock c)
+      go : (c : Carrier) → carrier ed v ≡ c → FitsAndValid (ownBlock c)
       go (block k h x) e = let w = valid-header h (carrier-header ed v k h x e) in ((w .0, carrier-fits ed v k h x e), w .1)
       go none e = error-sound
 
   -- the block sent in a state
-  sent-sound : (s : State) (v : List ℕ) → Sound (blockIn ed s v)
+  sent-sound : (s : State) (v : List ℕ) → FitsAndValid (blockIn ed s v)
   unfolding blockIn
   sent-sound Init v = own-sound v
   sent-sound Control v = own-sound v
@@ -100,7 +97,7 @@ module _ (ed : Edition) where
   -- ---- read as they were sent
 
   -- in a state other than E the block is the vector's own
-  own-block : (s : State) (v : List ℕ) → isError s ≡ false → blockIn ed s v ≡ ownBlock (carrier ed v)
+  own-block : (s : State) (v : List ℕ) → inError s ≡ false → blockIn ed s v ≡ ownBlock (carrier ed v)
   unfolding blockIn
   own-block Init v h = refl
   own-block Control v h = refl
@@ -114,16 +111,16 @@ module _ (ed : Edition) where
   Gives b v = (kindOf ed (b .header) (b .payload) ≡ vectorKind ed v) × (decoded ed (b .header) (b .payload) ≡ v)
 
   -- a vector that does not lead to E: its block has its kind and is decoded to it
-  gives : (s : State) (v : List ℕ) → Vector v → isError (transmitOf s (vectorKind ed v)) ≡ false → Gives (blockIn ed (transmitOf s (vectorKind ed v)) v) v
+  gives : (s : State) (v : List ℕ) → Vector v → inError (transmitOf s (vectorKind ed v)) ≡ false → Gives (blockIn ed (transmitOf s (vectorKind ed v)) v) v
   unfolding vectorKind
   gives s v w h = subst (λ (b : Block). Gives b v) (sym (own-block (transmitOf s (vectorKind ed v)) v h)) (go (carrier ed v) refl)
     where
       go : (c : Carrier) → carrier ed v ≡ c → Gives (ownBlock c) v
       go (block k y x) e = let r = round-trip ed v k y x (w .ten) (octets ed v k y x e (w .ten) (w .low) (w .high)) (w .low) (w .high) e in rw e r
-      go none e = absurd (true≢false (sym (ap isError (error-any s true)) ∙ rw e at h))
+      go none e = absurd (true≢false (sym (ap inError (error-any s true)) ∙ rw e at h))
 
   -- of a legal list every block is the vector's own, and carries it
-  pub carried : (s : State) (vs : List (List ℕ)) (ts : List Tested) → Vectors vs → legalFrom ed s vs ≡ true → Reads ed (sentBlocks ed s vs) ts → Carries ed vs ts
+  pub carried : (s : State) (vs : List (List ℕ)) (ts : List Tested) → Vectors vs → legalFrom ed s vs ≡ true → ReadAs ed (sentBlocks ed s vs) ts → Carries ed vs ts
   unfolding sentBlocks
   carried s [] [] w l r = tt
   carried s [] (t ∷ ts) w l r = absurd r
@@ -131,22 +128,3 @@ module _ (ed : Edition) where
   carried s (v ∷ vs) (t ∷ ts) w l r =
       let g = gives s v (w .0) (legal-head ed s v vs l) in
       (r .0 ∙ g .0, r .1 ∙ g .1, carried (transmitOf s (vectorKind ed v)) vs ts (w .1) (legal-tail ed s v vs l) (r .2))
-
-  -- ---- a list is legal exactly when sending replaces none of its vectors
-
-  -- the test of `legal` is the test that none was replaced
-  pub legal-exactly : (s : State) (vs : List (List ℕ)) → legalFrom ed s vs ≡ eqb (replaced ed s vs) 0
-  unfolding legalFrom replaced
-  legal-exactly s [] = refl
-  legal-exactly s (v ∷ vs) = go (transmitOf s (vectorKind ed v)) (legal-exactly (transmitOf s (vectorKind ed v)) vs)
-    where
-      kept : (n : ℕ) → eqb n 0 ≡ eqb (0 + n) 0
-      kept n = let e : n ≡ 0 + n = omega arith in ap (λ (m : ℕ). eqb m 0) e
-
-      go : (s′ : State) → legalFrom ed s′ vs ≡ eqb (replaced ed s′ vs) 0 → not (isError s′) && legalFrom ed s′ vs ≡ eqb (replacedIn s′ + replaced ed s′ vs) 0
-      go Init e = e ∙ kept (replaced ed Init vs)
-      go Control e = e ∙ kept (replaced ed Control vs)
-      go Data e = e ∙ kept (replaced ed Data vs)
-      go Terminate e = e ∙ kept (replaced ed Terminate vs)
-      go LowPower e = e ∙ kept (replaced ed LowPower vs)
-      go Error e = sym (ne-eqb (1 + replaced ed Error vs) 0 (λ q. omega arith))

@@ -7,9 +7,9 @@ use lib.ListN.{replicate}
 use Rattle.refusals.specs.First.{first}
 use Rattle.block.specs.Block.{editionOf, carrier, kindFor, vectorKind, highFrom, highControl}
 use Rattle.diagrams.specs.Diagram.{diagramOf, afterIdle, afterData, afterError}
-use Rattle.sending.specs.Send.{vectorsIn, vectorsOf}
+use Rattle.transmit.specs.Send.{vectorsIn, vectorList}
 use Rattle.sending.specs.Answer.{sendChecks}
-use Rattle.demands.specs.Words.{accepts, legalFrom, controlVector, controlVectors}
+use Rattle.demands.specs.Words.{SendAccepts, legalFrom, controlVector, controlVectors}
 use Rattle.demands.specs.Demand2.{Returnable, Returned}
 use Rattle.demands.proofs.Demand2.{demand-2}
 
@@ -30,12 +30,12 @@ bytes : List ℕ
 bytes = flatten (replicate 65 idle ++ frame)
 
 -- sending accepts them
-taken : accepts 0 bytes 0 561
+taken : SendAccepts 0 bytes 0 561
 unfolding bytes flatten sendChecks first highControl highFrom
 taken = refl
 
 -- the demand speaks of them
-returnable : Returnable (editionOf 0) (vectorsOf bytes)
+returnable : Returnable (editionOf 0) (vectorList bytes)
 unfolding bytes flatten vectorsIn editionOf vectorKind carrier kindFor legalFrom controlVectors controlVector diagramOf afterIdle afterData afterError
 returnable = record { is-legal = refl; long = lit≤ tt; starts-with-control = refl }
 
@@ -52,11 +52,11 @@ low = 0x0f ∷ 6 ∷ 6 ∷ 6 ∷ 6 ∷ 0x0f ∷ 6 ∷ 6 ∷ 6 ∷ 6 ∷ []
 low-bytes : List ℕ
 low-bytes = flatten (replicate 64 idle ++ frame ++ low ∷ [])
 
-low-taken : accepts 1 low-bytes 0 561
+low-taken : SendAccepts 1 low-bytes 0 561
 unfolding low-bytes flatten sendChecks first highControl highFrom
 low-taken = refl
 
-low-returnable : Returnable (editionOf 1) (vectorsOf low-bytes)
+low-returnable : Returnable (editionOf 1) (vectorList low-bytes)
 unfolding low-bytes flatten vectorsIn editionOf vectorKind carrier kindFor legalFrom controlVectors controlVector diagramOf afterIdle afterData afterError
 low-returnable = record { is-legal = refl; long = lit≤ tt; starts-with-control = refl }
 

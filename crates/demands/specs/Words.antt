@@ -13,17 +13,17 @@ use Rattle.sending.specs.Answer.{sendChecks}
 use Rattle.receiving.specs.declared.Summary.{Summary}
 
 -- Sending accepts vector bytes, in an edition, from a start state and with room for the line: none of its refusals applies.
-abbrev pub accepts : (edition : ℕ) (bytes : List ℕ) (start room : ℕ) → Type 0
-accepts edition bytes start room = first (sendChecks edition bytes start room) ≡ accepted
+abbrev pub SendAccepts : (edition : ℕ) (bytes : List ℕ) (start room : ℕ) → Type 0
+SendAccepts edition bytes start room = first (sendChecks edition bytes start room) ≡ accepted
 
 -- state E of the diagrams
-abbrev pub isError : State → Bool
-isError Init = false
-isError Control = false
-isError Data = false
-isError Terminate = false
-isError Error = true
-isError LowPower = false
+abbrev pub inError : State → Bool
+inError Init = false
+inError Control = false
+inError Data = false
+inError Terminate = false
+inError Error = true
+inError LowPower = false
 
 module _ (ed : Edition) where
   -- "A list is legal when no vector leads to E.": from a state of the transmit diagram, and "from INIT"
@@ -31,7 +31,7 @@ module _ (ed : Edition) where
   legalFrom s [] = true
   legalFrom s (v ∷ vs) =
       let s′ = transmitOf s (vectorKind ed v) in
-      not (isError s′) && legalFrom s′ vs
+      not (inError s′) && legalFrom s′ vs
 
   abbrev pub legal : List (List ℕ) → Bool
   legal vectors = legalFrom Init vectors

@@ -1,4 +1,2 @@
-pub mod Lock
-pub mod Rate
 pub mod Diagram
 pub mod Parts

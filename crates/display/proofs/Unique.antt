@@ -5,25 +5,25 @@ use mathlib.Core.Bool.{Bool}
 use mathlib.Core.List.{List}
 use Rattle.refusals.specs.Number.{numberOf}
 use Rattle.refusals.specs.declared.Refusal.{Refusal}
-use Rattle.place.specs.Placed.{Writes}
-use Rattle.place.proofs.Unique.{writes-unique}
+use Rattle.putting.specs.Overlaid.{PutsText}
+use Rattle.putting.proofs.Unique.{puts-unique}
 use Rattle.display.specs.Display.{hexLines, summaryLines, refusedLine, inputFailedLine, lineRecords}
 
 module _ (at : ℕ) (entry : List ℕ) (r r′ : ℕ) (exit exit′ : List ℕ) where
   abbrev One : List ℕ → Type 0
-  One text = Writes at text entry r exit → Writes at text entry r′ exit′ → (r ≡ r′) × (exit ≡ exit′)
+  One text = PutsText at text entry r exit → PutsText at text entry r′ exit′ → (r ≡ r′) × (exit ≡ exit′)
 
   pub hex-lines-unique : (vectors : List ℕ) → One (hexLines vectors)
-  hex-lines-unique vectors = writes-unique at (hexLines vectors) entry r r′ exit exit′
+  hex-lines-unique vectors = puts-unique at (hexLines vectors) entry r r′ exit exit′
 
   pub summary-lines-unique : (tested slips : ℕ) (locked high : Bool) → One (summaryLines tested slips locked high)
-  summary-lines-unique tested slips locked high = writes-unique at (summaryLines tested slips locked high) entry r r′ exit exit′
+  summary-lines-unique tested slips locked high = puts-unique at (summaryLines tested slips locked high) entry r r′ exit exit′
 
   pub refused-line-unique : (why : Refusal) → One (refusedLine (numberOf why))
-  refused-line-unique why = writes-unique at (refusedLine (numberOf why)) entry r r′ exit exit′
+  refused-line-unique why = puts-unique at (refusedLine (numberOf why)) entry r r′ exit exit′
 
   pub input-failed-line-unique : One inputFailedLine
-  input-failed-line-unique = writes-unique at inputFailedLine entry r r′ exit exit′
+  input-failed-line-unique = puts-unique at inputFailedLine entry r r′ exit exit′
 
   pub line-records-unique : (line : List ℕ) → One (lineRecords 4092 line)
-  line-records-unique line = writes-unique at (lineRecords 4092 line) entry r r′ exit exit′
+  line-records-unique line = puts-unique at (lineRecords 4092 line) entry r r′ exit exit′

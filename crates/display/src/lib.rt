@@ -6,7 +6,7 @@ ghost use Prim.Native.Nat.{_+_, _*_, _/_, _≤_, _<_};
 ghost use lib.ListN.{length};
 ghost use Rattle.refusals.specs.Number.{numberOf};
 ghost use Rattle.records.specs.Record.{recordOf};
-ghost use Rattle.place.specs.Placed.{Writes};
+ghost use Rattle.putting.specs.Overlaid.{PutsText};
 ghost use Rattle.display.specs.Display.{ascii, hexDigit, hexDigits, hexLine, hexLines, decimal, flag, summaryLines, refusedLine, inputFailedLine, lineRecords};
 
 // A hexadecimal digit, lower case.
@@ -20,7 +20,7 @@ fn digit(n: u8) -> u8
 // Two digits for each byte.
 fn hex_digits(v: &[u8], out: &mut [u8], at: usize) -> usize
     requires { ⌜ at + 2 * length (now v) ≤ length (now out) ⌝ }
-    ensures { λ r. ⌜ Writes at (hexDigits (now (v .entry))) (now (out .entry)) r (now (out .exit)) ⌝ }
+    ensures { λ r. ⌜ PutsText at (hexDigits (now (v .entry))) (now (out .entry)) r (now (out .exit)) ⌝ }
 {
     let mut e = at;
     let mut j = 0;
@@ -37,16 +37,16 @@ fn hex_digits(v: &[u8], out: &mut [u8], at: usize) -> usize
 // The digits of a vector, on a line.
 fn hex_line(v: &[u8], out: &mut [u8], at: usize) -> usize
     requires { ⌜ at + 2 * length (now v) + 1 ≤ length (now out) ⌝ }
-    ensures { λ r. ⌜ Writes at (hexLine (now (v .entry))) (now (out .entry)) r (now (out .exit)) ⌝ }
+    ensures { λ r. ⌜ PutsText at (hexLine (now (v .entry))) (now (out .entry)) r (now (out .exit)) ⌝ }
 {
     let e = hex_digits(v, out, at);
-    place::text(b"\n", out, e)
+    putting::text(b"\n", out, e)
 }
 
 // A line for each vector.
 pub fn hex_lines(vectors: &[u8], out: &mut [u8], at: usize) -> usize
     requires { ⌜ at + 21 * (length (now vectors) / 10) ≤ length (now out) ⌝ }
-    ensures { λ r. ⌜ Writes at (hexLines (now (vectors .entry))) (now (out .entry)) r (now (out .exit)) ⌝ }
+    ensures { λ r. ⌜ PutsText at (hexLines (now (vectors .entry))) (now (out .entry)) r (now (out .exit)) ⌝ }
 {
     let k = vectors.len() / 10;
     let mut e = at;
@@ -61,7 +61,7 @@ pub fn hex_lines(vectors: &[u8], out: &mut [u8], at: usize) -> usize
 // The decimal digits of a number.
 fn decimal_digits(n: u64, out: &mut [u8], at: usize) -> usize
     requires { ⌜ at + length (decimal n) ≤ length (now out) ⌝ }
-    ensures { λ r. ⌜ Writes at (decimal n) (now (out .entry)) r (now (out .exit)) ⌝ }
+    ensures { λ r. ⌜ PutsText at (decimal n) (now (out .entry)) r (now (out .exit)) ⌝ }
 {
     if n < 10 {
         out[at] = digit(n as u8);
@@ -75,12 +75,12 @@ fn decimal_digits(n: u64, out: &mut [u8], at: usize) -> usize
 // A name and a number, on a line.
 fn number_line(name: &[u8], n: u64, out: &mut [u8], at: usize) -> usize
     requires { ⌜ at + length (now name) + 21 ≤ length (now out) ⌝ }
-    ensures { λ r. ⌜ Writes at (now (name .entry) ++ decimal n ++ ascii "\n") (now (out .entry)) r (now (out .exit)) ⌝ }
+    ensures { λ r. ⌜ PutsText at (now (name .entry) ++ decimal n ++ ascii "\n") (now (out .entry)) r (now (out .exit)) ⌝ }
     ensures { λ r. ⌜ r ≤ at + length (now (name .entry)) + 21 ⌝ }
 {
-    let d = place::text(name, out, at);
+    let d = putting::text(name, out, at);
     let e = decimal_digits(n, out, d);
-    place::text(b"\n", out, e)
+    putting::text(b"\n", out, e)
 }
 
 // 1 for true.
@@ -100,7 +100,7 @@ pub fn summary_lines(
     at: usize,
 ) -> usize
     requires { ⌜ at + 109 ≤ length (now out) ⌝ }
-    ensures { λ r. ⌜ Writes at (summaryLines tested slips locked high) (now (out .entry)) r (now (out .exit)) ⌝ }
+    ensures { λ r. ⌜ PutsText at (summaryLines tested slips locked high) (now (out .entry)) r (now (out .exit)) ⌝ }
 {
     let a = number_line(b"tested ", tested, out, at);
     let b = number_line(b"slips ", slips, out, a);
@@ -111,7 +111,7 @@ pub fn summary_lines(
 // The line of a refusal.
 pub fn refused_line(why: Refusal, out: &mut [u8], at: usize) -> usize
     requires { ⌜ at + 29 ≤ length (now out) ⌝ }
-    ensures { λ r. ⌜ Writes at (refusedLine (numberOf why)) (now (out .entry)) r (now (out .exit)) ⌝ }
+    ensures { λ r. ⌜ PutsText at (refusedLine (numberOf why)) (now (out .entry)) r (now (out .exit)) ⌝ }
 {
     number_line(b"refused ", refusals::number(why), out, at)
 }
@@ -119,15 +119,15 @@ pub fn refused_line(why: Refusal, out: &mut [u8], at: usize) -> usize
 // The line of a read that failed.
 pub fn input_failed_line(out: &mut [u8], at: usize) -> usize
     requires { ⌜ at + 13 ≤ length (now out) ⌝ }
-    ensures { λ r. ⌜ Writes at inputFailedLine (now (out .entry)) r (now (out .exit)) ⌝ }
+    ensures { λ r. ⌜ PutsText at inputFailedLine (now (out .entry)) r (now (out .exit)) ⌝ }
 {
-    place::text(b"input failed\n", out, at)
+    putting::text(b"input failed\n", out, at)
 }
 
 // A line record.
 fn line_record(body: &[u8], out: &mut [u8], at: usize) -> usize
     requires { ⌜ (length (now body) < 65536) × (at + length (now body) + 4 ≤ length (now out)) ⌝ }
-    ensures { λ r. ⌜ Writes at (recordOf 2 (now (body .entry))) (now (out .entry)) r (now (out .exit)) ⌝ }
+    ensures { λ r. ⌜ PutsText at (recordOf 2 (now (body .entry))) (now (out .entry)) r (now (out .exit)) ⌝ }
 {
     records::put(2, body, &mut out[at..]);
     at + body.len() + 4
@@ -136,7 +136,7 @@ fn line_record(body: &[u8], out: &mut [u8], at: usize) -> usize
 // Line records of 4,092 bytes, the last with what is left.
 pub fn line_records(line: &[u8], out: &mut [u8], at: usize) -> usize
     requires { ⌜ at + length (lineRecords 4092 (now line)) ≤ length (now out) ⌝ }
-    ensures { λ r. ⌜ Writes at (lineRecords 4092 (now (line .entry))) (now (out .entry)) r (now (out .exit)) ⌝ }
+    ensures { λ r. ⌜ PutsText at (lineRecords 4092 (now (line .entry))) (now (out .entry)) r (now (out .exit)) ⌝ }
 {
     if line.len() == 0 {
         return at;

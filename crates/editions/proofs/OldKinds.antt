@@ -6,10 +6,10 @@ use Prim.Native.Nat.{ℕ, _%_, _^_}
 use lib.Dec.{T, T-not, eqb}
 use Rattle.block.specs.declared.Edition.the-variants.{Old}
 use Rattle.block.specs.declared.Kind.{Kind}
-use Rattle.block.specs.declared.Kind.the-variants.{D, C, S, T as T′, E, LI}
+use Rattle.block.specs.declared.Kind.the-variants.{LI}
 use Rattle.block.specs.declared.Reason.the-variants.{Header, BlockType, ControlCode, SetCode}
 use Rattle.block.specs.declared.Class.the-variants.{Bad}
-use Rattle.block.specs.Block.{Format, controlBlocks, formatOf, vectorOf, lowPowerVector, kindFor, some, says, good, classOf, kindIn, carries, payloadOf, block, carrierBy, carrier, carrierKind}
+use Rattle.block.specs.Block.{Format, controlBlocks, formatOf, vectorOf, lowPowerVector, kindFor, some, says, good, classOf, kindIn, carries, payloadFor, block, carrierBy, carrier, carrierKind}
 use Rattle.block.specs.Rows.{formats}
 use Rattle.block.proofs.Tests.{both-left, both-right, every, is-true}
 use Rattle.block.proofs.Reading.{plain-kind}
@@ -40,8 +40,8 @@ plain (f ∷ fs) v t = go (carries Old v (f .fields)) refl (plain fs v (both-rig
         (subst (λ (w : List ℕ). T (carries Old w (f .fields))) e u)
 
     go : (b : Bool) → carries Old v (f .fields) ≡ b → carrierBy Old fs v ≡ carrierAmong fs v
-        → cond b (block (kindFor f v) (f .header) (payloadOf Old v f)) (carrierBy Old fs v) ≡ cond b (block (f .kind) (f .header) (payloadOf Old v f)) (carrierAmong fs v)
-    go true e ih = ap (λ (k : Kind). block k (f .header) (payloadOf Old v f)) (plain-kind f v (not-low-here (is-true e)))
+        → cond b (block (kindFor f v) (f .header) (payloadFor Old v f)) (carrierBy Old fs v) ≡ cond b (block (f .kind) (f .header) (payloadFor Old v f)) (carrierAmong fs v)
+    go true e ih = ap (λ (k : Kind). block k (f .header) (payloadFor Old v f)) (plain-kind f v (not-low-here (is-true e)))
     go false e ih = ih
 
 pub old-carrier : (v : List ℕ) → carrier Old v ≡ carrierBefore v
@@ -61,6 +61,6 @@ vector-kind v = other _ (among formats tt)
     among [] t = tt
     among (f ∷ fs) t = go (carries Old v (f .fields)) (among fs (both-right (not (isLow (f .kind))) _ t))
       where
-        go : (b : Bool) → T (not (isLow (carrierKind (carrierAmong fs v)))) → T (not (isLow (carrierKind (cond b (block (f .kind) (f .header) (payloadOf Old v f)) (carrierAmong fs v)))))
+        go : (b : Bool) → T (not (isLow (carrierKind (carrierAmong fs v)))) → T (not (isLow (carrierKind (cond b (block (f .kind) (f .header) (payloadFor Old v f)) (carrierAmong fs v)))))
         go true ih = both-left (not (isLow (f .kind))) _ t
         go false ih = ih

@@ -1,22 +1,20 @@
 -- Sending in the old edition is what it was. Assumes nothing.
-use mathlib.Core.Path.{_≡_, refl, sym, ap, ap₂, _∙_}
+use mathlib.Core.Path.{_≡_, refl, ap, ap₂, _∙_}
 use mathlib.Core.Bool.{true}
 use mathlib.Core.List.{List, [], _∷_, _++_}
-use Prim.Native.Nat.{ℕ, _+_, _*_, _/_, _≤_}
-use native.Mathlib.Omega.{arith}
+use Prim.Native.Nat.{ℕ, _+_, _*_, _/_}
 use lib.ListN.{length, drop}
 use Rattle.bits.specs.Bits.{streamBit, cut}
 use Rattle.refusals.specs.First.{first as firstOf, byVerdict}
 use Rattle.scrambler.specs.Scrambler.{mirror}
 use Rattle.line.specs.declared.Block.{Block}
 use Rattle.block.specs.declared.Edition.the-variants.{Old}
-use Rattle.block.specs.declared.Kind.{Kind}
-use Rattle.block.specs.Block.{editionOf, Carrier, vectorKind, carrierKind}
+use Rattle.block.specs.Block.{editionOf, vectorKind, carrierKind}
 use Rattle.diagrams.specs.Diagram.{transmitOf, stateNumber}
 use Rattle.diagrams.specs.declared.State.{State}
 use Rattle.diagrams.specs.declared.State.the-variants.{Init, Control, Data, Terminate, Error, LowPower}
 use Rattle.diagrams.proofs.Laws.{never-low}
-use Rattle.sending.specs.Send.{vectorsOf, errorBlock, ownBlock, blockIn, replacedIn, stateAfter, replaced, sentBlocks, lineWords, historyOver, blocksFor, sentLine}
+use Rattle.transmit.specs.Send.{vectorList, ownBlock, blockIn, replacedIn, stateAfter, replaced, sentBlocks, lineWords, historyOver, blocksFor, sentLine}
 use Rattle.sending.specs.Answer.{SendAnswer, sent, refused, sendChecks, sentFor, sendAnswer, sendRoom}
 use Rattle.editions.specs.Before.{kindBefore, stepBefore, blockBefore, stateBefore, replacedBefore, blocksBefore, sentBefore, lineBefore, sendChecksBefore, sendAnswerBefore, sendRoomBefore}
 use Rattle.editions.specs.Unchanged.{SendingUnchanged}
@@ -72,11 +70,11 @@ module _ (bytes : List ℕ) (start : ℕ) where
   pub sent-same : sentFor Old bytes start ≡ sentBefore bytes start
   unfolding sentFor blocksFor
   sent-same =
-      λ i. sent (mirror (historyOver (mirror start) (blocks-same Init (vectorsOf bytes) first i))) (stateNumber (state-same Init (vectorsOf bytes) first i)) (replaced-same Init (vectorsOf bytes) first i)
+      λ i. sent (mirror (historyOver (mirror start) (blocks-same Init (vectorList bytes) first i))) (stateNumber (state-same Init (vectorList bytes) first i)) (replaced-same Init (vectorList bytes) first i)
 
   line-same : sentLine Old bytes start ≡ lineBefore bytes start
   unfolding sentLine blocksFor
-  line-same = ap (λ (bs : List Block). cut 8 (streamBit 66 (lineWords (mirror start) bs)) (33 * (length bytes / 40))) (blocks-same Init (vectorsOf bytes) first)
+  line-same = ap (λ (bs : List Block). cut 8 (streamBit 66 (lineWords (mirror start) bs)) (33 * (length bytes / 40))) (blocks-same Init (vectorList bytes) first)
 
   answer-same : (room : ℕ) → sendAnswer 0 bytes start room ≡ sendAnswerBefore bytes start room
   unfolding sendAnswer sendChecks sendAnswerBefore editionOf firstOf

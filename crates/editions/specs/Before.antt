@@ -2,8 +2,7 @@
 -- no state LI and no refusal 13. Characters, fields and formats are not said anew: what reads them in the old edition reads `controls`, document
 -- 01's table. Nor are scrambler, lock and error rate, which know no edition.
 use Prim.Native.Nat.{ℕ, _+_, _*_, _/_, _%_, _^_}
-use mathlib.Core.Path.{_≡_}
-use mathlib.Core.Bool.{Bool, true, false, cond, not, _&&_, _||_}
+use mathlib.Core.Bool.{Bool, true, cond, not, _&&_, _||_}
 use mathlib.Core.List.{List, [], _∷_, _++_, map, flatten}
 use lib.Dec.{eqb, ltb, leb}
 use lib.ListN.{length, drop}
@@ -16,16 +15,16 @@ use Rattle.block.specs.declared.Kind.{Kind}
 use Rattle.block.specs.declared.Reason.the-variants.{Header, BlockType, ControlCode, SetCode}
 use Rattle.block.specs.declared.Class.{Class}
 use Rattle.block.specs.declared.Class.the-variants.{Bad}
-use Rattle.block.specs.Block.{Format, dataBlock, controlBlocks, formatOf, decoded, some, says, good, isD, isC, isS, isT, kindIn, carries, payloadOf, Carrier, block, none, carrierKind, controlCheck}
-use Rattle.diagrams.specs.Lock.{slipsOf}
+use Rattle.block.specs.Block.{Format, dataBlock, controlBlocks, formatOf, decoded, some, says, good, isD, isC, isS, isT, kindIn, carries, payloadFor, Carrier, block, none, carrierKind, controlCheck}
+use Rattle.lock.specs.Lock.{slipsOf}
 use Rattle.diagrams.specs.Diagram.{stateNumber}
 use Rattle.diagrams.specs.declared.State.{State}
 use Rattle.diagrams.specs.declared.State.the-variants.{Init, Control, Data, Terminate, Error, LowPower}
-use Rattle.sending.specs.Send.{vectorsOf, errorBlock, ownBlock, replacedIn, lineWords, historyOver}
+use Rattle.transmit.specs.Send.{vectorList, errorBlock, ownBlock, replacedIn, lineWords, historyOver}
 use Rattle.sending.specs.Answer.{SendAnswer, sent, refused}
 use Rattle.receiving.specs.Machine.{Tested, validOf}
-use Rattle.receiving.specs.Receive.{Judged, answerIn, answer, judgedAlone, countsOf, handedOf, runOf}
-use Rattle.receiving.specs.Reasons.{Taken, takenOf, takenOn, plain}
+use Rattle.receiving.specs.Receive.{Judged, answer, judgedAlone, countsOf, handedOf, runOf}
+use Rattle.receiving.specs.Reasons.{Taken, takenBlocks, takenOn, takenPlain}
 use Rattle.receiving.specs.Answer as Receiving
 use Rattle.receiving.specs.declared.Summary.{Summary}
 
@@ -42,7 +41,7 @@ classBefore h x =
 -- the block that carries a vector, and the vector's kind
 abbrev pub carrierAmong : List Format → List ℕ → Carrier
 carrierAmong [] v = none
-carrierAmong (f ∷ fs) v = cond (carries Old v (f .fields)) (block (f .kind) (f .header) (payloadOf Old v f)) (carrierAmong fs v)
+carrierAmong (f ∷ fs) v = cond (carries Old v (f .fields)) (block (f .kind) (f .header) (payloadFor Old v f)) (carrierAmong fs v)
 
 unfoldable pub carrierBefore : List ℕ → Carrier
 carrierBefore v = carrierAmong (dataBlock ∷ controlBlocks) v
@@ -113,11 +112,11 @@ sendChecksBefore bytes start room =
 
 -- the answer, and the room afterwards
 abbrev pub lineBefore : List ℕ → ℕ → List ℕ
-lineBefore bytes start = cut 8 (streamBit 66 (lineWords (mirror start) (blocksBefore Init (vectorsOf bytes)))) (33 * (length bytes / 40))
+lineBefore bytes start = cut 8 (streamBit 66 (lineWords (mirror start) (blocksBefore Init (vectorList bytes)))) (33 * (length bytes / 40))
 
 abbrev pub sentBefore : List ℕ → (start : ℕ) → SendAnswer
 sentBefore bytes start =
-    sent (mirror (historyOver (mirror start) (blocksBefore Init (vectorsOf bytes)))) (stateNumber (stateBefore Init (vectorsOf bytes))) (replacedBefore Init (vectorsOf bytes))
+    sent (mirror (historyOver (mirror start) (blocksBefore Init (vectorList bytes)))) (stateNumber (stateBefore Init (vectorList bytes))) (replacedBefore Init (vectorList bytes))
 
 unfoldable pub sendAnswerBefore : List ℕ → (start room : ℕ) → SendAnswer
 sendAnswerBefore bytes start room = byVerdict (first (sendChecksBefore bytes start room)) (sentBefore bytes start) refused
@@ -133,8 +132,8 @@ testedBefore t =
     record {
       on = takenOn t;
       slipped = slipsOf (t .link .lock) (validOf (t .header));
-      class = classBefore (t .header) (plain t);
-      vector = decoded Old (t .header) (plain t);
+      class = classBefore (t .header) (takenPlain t);
+      vector = decoded Old (t .header) (takenPlain t);
     }
 
 -- "T to T if the next block is S or C", which "counts as E if testing it leaves the receiver not locked or high"; 6/13: a missing one counts as C
@@ -154,7 +153,7 @@ judgeBefore s (t ∷ ts) =
 
 -- of a whole line
 abbrev pub testedOn : List ℕ → List Tested
-testedOn line = map testedBefore (takenOf Old line)
+testedOn line = map testedBefore (takenBlocks Old line)
 
 abbrev pub judgedOn : List ℕ → List Judged
 judgedOn line = judgeBefore Init (testedOn line)

@@ -8,14 +8,14 @@ use Rattle.refusals.specs.First.{check, Verdict, first, byVerdict}
 use Rattle.sending.specs.Answer as Sending
 use Rattle.receiving.specs.Answer as Receiving
 use Rattle.counters.specs.Counters.{updated}
-use Rattle.slices.specs.Slices.{resultOf, after, tooShort, summaryWith, countersIn, countersWith, receiveLength, shortSlice, receiveWords}
+use Rattle.slices.specs.Slices.{resultOf, oneMoreAfter, tooShort, summaryWith, countersIn, countersWith, receiveLength, shortSlice, receiveWords}
 use Rattle.holzmotte.specs.Boundary.{sendWords, SendsThroughC, ReceivesThroughC}
 use Rattle.editions.specs.Before.{sendChecksBefore, sentBefore, sendRoomBefore, receiveChecksBefore, summaryBefore, receiveRoomBefore}
 
 -- ---- `holzmotte_send` in edition 0 was lent `room` and `summary`, returned `r` and left `room′` and `summary′`
 
 abbrev pub sendVerdictBefore : List ℕ → (start room summary : ℕ) → Verdict
-sendVerdictBefore bytes start room summary = first (after 3 (check 4 (tooShort 8 3 summary)) (sendChecksBefore bytes start room))
+sendVerdictBefore bytes start room summary = first (oneMoreAfter 3 (check 4 (tooShort 8 3 summary)) (sendChecksBefore bytes start room))
 
 abbrev pub LeftBySending : Verdict → (bytes : List ℕ) (start : ℕ) (room summary : List ℕ) (r : ℕ) (room′ summary′ : List ℕ) → Type 0
 LeftBySending v bytes start room summary r room′ summary′ =
@@ -31,7 +31,7 @@ SendingUnchangedThroughC =
 -- ---- `holzmotte_receive` in edition 0 was lent `room`, `summary` and `counters`, returned `r` and left `room′`, `summary′` and `counters′`
 
 abbrev pub receiveVerdictBefore : (line room summary counters : ℕ) → Verdict
-receiveVerdictBefore line room summary counters = first (after 1 (check 4 (shortSlice summary counters)) (receiveChecksBefore line room))
+receiveVerdictBefore line room summary counters = first (oneMoreAfter 1 (check 4 (shortSlice summary counters)) (receiveChecksBefore line room))
 
 abbrev pub LeftByReceiving : Verdict → (line room summary counters : List ℕ) (r : ℕ) (room′ summary′ counters′ : List ℕ) → Type 0
 LeftByReceiving v line room summary counters r room′ summary′ counters′ =

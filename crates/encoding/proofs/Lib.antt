@@ -1,7 +1,2 @@
-pub mod Told
-pub mod Fields
-pub mod Packing
-pub mod Choosing
-pub mod Looking
 pub mod Answers
 pub mod Unique

@@ -7,31 +7,16 @@ use Rattle.refusals.specs.Number.{numberOf}
 use Rattle.refusals.proofs.Laws.{number-injective}
 use Rattle.block.specs.declared.Edition.{Edition}
 use Rattle.block.specs.Block.{twoWords, carrier, encodeAnswer}
-use Rattle.block.specs.Rows.{row}
-use Rattle.encoding.specs.declared.Coded.{Coded}
+use Rattle.block.specs.declared.Coded.{Coded}
 use Rattle.encoding.specs.declared.Encoded.{Encoded}
 use Rattle.encoding.specs.declared.Encoded.the-variants.{Refused, Invalid, Block}
-use Rattle.encoding.specs.Answer.{codedOf, answerOf}
-use Rattle.encoding.specs.Parts.{fieldsBy, placesBy, firstBy, nextBy, lanesAt}
+use Rattle.block.specs.Coded.{codedOf}
+use Rattle.encoding.specs.Answer.{answerOf}
+use Rattle.encoding.specs.Parts.{lanesAt}
 
 pub encode-unique : (ed : Edition) (c0 d0 c1 d1 : ℕ) (r r′ : Coded)
     → r ≡ codedOf (carrier ed (twoWords c0 d0 c1 d1)) → r′ ≡ codedOf (carrier ed (twoWords c0 d0 c1 d1)) → r ≡ r′
 encode-unique ed c0 d0 c1 d1 r r′ p q = p ∙ sym q
-
-pub type-of-unique : (r z z′ : ℕ) → z ≡ row r .type → z′ ≡ row r .type → z ≡ z′
-type-of-unique r z z′ p q = p ∙ sym q
-
-pub fields-of-unique : (r z z′ : ℕ) → z ≡ fieldsBy r → z′ ≡ fieldsBy r → z ≡ z′
-fields-of-unique r z z′ p q = p ∙ sym q
-
-pub places-of-unique : (r z z′ : ℕ) → z ≡ placesBy r → z′ ≡ placesBy r → z ≡ z′
-places-of-unique r z z′ p q = p ∙ sym q
-
-pub first-row-unique : (m z z′ : ℕ) → z ≡ firstBy m → z′ ≡ firstBy m → z ≡ z′
-first-row-unique m z z′ p q = p ∙ sym q
-
-pub next-row-unique : (r z z′ : ℕ) → z ≡ nextBy r → z′ ≡ nextBy r → z ≡ z′
-next-row-unique r z z′ p q = p ∙ sym q
 
 pub lanes-at-unique : (v : List ℕ) (p r r′ : ℕ) → r ≡ lanesAt v p → r′ ≡ lanesAt v p → r ≡ r′
 lanes-at-unique v p r r′ e q = e ∙ sym q

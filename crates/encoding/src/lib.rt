@@ -1,101 +1,28 @@
 // One vector to be sent: the block that carries it.
 ghost use mathlib.Core.Path.{_≡_};
-ghost use mathlib.Core.Bool.{true, false};
-ghost use mathlib.Core.List.{List};
-ghost use Prim.Native.Nat.{ℕ, _+_, _*_, _<_, _≤_, _^_};
+ghost use Prim.Native.Nat.{_+_, _*_, _<_, _≤_};
 ghost use lib.ListN.{length};
-ghost use Rattle.block.specs.Block.{Control, codeOf, twoWords, carrier, encodeAnswer};
+ghost use Rattle.block.specs.Block.{twoWords, carrier, encodeAnswer};
+ghost use Rattle.block.specs.Coded.{codedOf};
 ghost use Rattle.block.specs.Rows.{row, SameFlags};
-ghost use Rattle.encoding.specs.Answer.{codedOf, answerOf};
-ghost use Rattle.encoding.specs.Parts.{spread, slotOf, fieldIn, fieldCode, placeIn, sumBy, Quickly, lanesAt, encodedOf};
+ghost use Rattle.fields.specs.Parts.{spread, sumBy};
+ghost use Rattle.encoding.specs.Answer.{answerOf};
+ghost use Rattle.encoding.specs.Parts.{lanesAt, encodedOf};
+use block::Coded;
 use block::Edition;
 use block::Kind;
+use fields::Sum;
+use fields::field_code;
+use fields::placed;
+use fields::rows;
+use quick_encoding::quick;
 use refusals::Refusal;
-
-mod rows;
-
-// The block of a vector. A vector that no block carries is of kind E, with the block that is sent in state E.
-pub struct Coded {
-    pub kind: Kind,
-    pub header: u64,
-    pub payload: u64,
-}
 
 // The answer for one vector by itself: a refusal and its place; kind E; or kind, header and payload.
 pub enum Encoded {
     Refused(Refusal, usize),
     Invalid,
     Block(Kind, u64, u64),
-}
-
-// A payload, where the format's fields take all eight characters.
-struct Sum {
-    fits: bool,
-    payload: u64,
-}
-
-// The code of a control character, 256 where the edition has none.
-fn control_code(edition: Edition, octet: u64) -> u64
-    requires { ⌜ octet < 256 ⌝ }
-    ensures { λ z. ⌜ z ≡ codeOf edition Control octet ⌝ }
-{
-    match octet {
-        0x06 => match edition {
-            Edition::Old => 256,
-            Edition::New => 0x06,
-        },
-        0x07 => 0x00,
-        0x1c => 0x2d,
-        0x3c => 0x33,
-        0x7c => 0x4b,
-        0xbc => 0x55,
-        0xdc => 0x66,
-        0xf7 => 0x78,
-        0xfe => 0x1e,
-        _ => 256,
-    }
-}
-
-// The code of an octet in a slot, not below 256 where it has none.
-fn code_of(edition: Edition, slot: u64, octet: u64) -> u64
-    requires { ⌜ octet < 256 ⌝ }
-    ensures { λ z. ⌜ z ≡ codeOf edition (slotOf slot) octet ⌝ }
-{
-    match slot {
-        0 => octet,
-        1 => control_code(edition, octet),
-        2 => if octet == 0xfe {
-            256
-        } else {
-            control_code(edition, octet)
-        },
-        3 => match octet {
-            0x5c => 15,
-            0x9c => 0,
-            _ => 512,
-        },
-        4 => if octet == 0xfb { 0 } else { 256 },
-        _ => if octet == 0xfd { 0 } else { 256 },
-    }
-}
-
-// The code of field i of row r for its octet of the eight, not below 256 where it has none.
-fn field_code(edition: Edition, r: usize, i: usize, lanes: u64) -> u64
-    requires { ⌜ (r < 16) × (i < 8) ⌝ }
-    ensures { λ z. ⌜ z ≡ fieldCode edition r i lanes ⌝ }
-{
-    let field = (rows::fields_of(r) >> (8 * i)) % 256;
-    let octet = (lanes >> (8 * (field % 8))) % 256;
-    code_of(edition, field / 8, octet)
-}
-
-// A code at the place of field i of row r.
-fn placed(r: usize, i: usize, code: u64) -> u64
-    requires { ⌜ (r < 16) × (i < 8) × (code < 2 ^ fieldIn r i .bits) ⌝ }
-    ensures { λ z. ⌜ z ≡ 2 ^ placeIn r i * code ⌝ }
-{
-    let place = (rows::places_of(r) >> (8 * i)) % 64;
-    code << place
 }
 
 // The payload of row r, whose control bits are the vector's; c0 and c1 say which vector the lanes belong to.
@@ -150,120 +77,6 @@ fn encode_rows(edition: Edition, c0: u8, c1: u8, lanes: u64) -> Coded
         header: 1,
         payload: 0x3c78f1e3c78f1e1e,
     }
-}
-
-// What a look at all eight octets tells: whether that is all there is to ask, and then the block.
-struct Known {
-    there: bool,
-    kind: Kind,
-    header: u64,
-    payload: u64,
-}
-
-fn found(kind: Kind, payload: u64) -> Known
-    ensures { λ z. ⌜ z ≡ record { there = true; kind = kind; header = 1; payload = payload } ⌝ }
-{
-    Known {
-        there: true,
-        kind: kind,
-        header: 1,
-        payload: payload,
-    }
-}
-
-fn not_found() -> Known
-    ensures { λ z. ⌜ z .there ≡ false ⌝ }
-{
-    Known {
-        there: false,
-        kind: Kind::E,
-        header: 0,
-        payload: 0,
-    }
-}
-
-// How many data octets stand before control characters alone; 8 where no such number does. The numbers of each control byte stand in one
-// word, four bits for each.
-fn before(c0: u8, c1: u8) -> u64
-    requires { ⌜ (c0 ≤ 15) × (c1 ≤ 15) ⌝ }
-    ensures { λ k. ⌜ (k < 8 → c0 + 16 * c1 + 2 ^ k ≡ 256) × ((j : ℕ) → j < 8 → c0 + 16 * c1 + 2 ^ j ≡ 256 → k ≡ j) ⌝ }
-{
-    let numbers: u64 = 0x01f2_fff3_ffff_fff4;
-    let k = (numbers >> (4 * (c0 as u64))) % 16 + (numbers >> (4 * (c1 as u64))) % 16;
-    if k < 8 {
-        if c0 as u64 + 16 * (c1 as u64) + (1 << k) == 256 {
-            return k;
-        }
-    }
-    8
-}
-
-// k data octets, Terminate and idles; or eight idles.
-fn quick_end(k: u64, c0: u8, c1: u8, lanes: u64) -> Known
-    requires { ⌜ (k < 8) × (c0 ≤ 15) × (c1 ≤ 15) × (c0 + 16 * c1 + 2 ^ k ≡ 256) ⌝ }
-    ensures { λ z. ⌜ Quickly c0 c1 lanes z ⌝ }
-{
-    let end: u64 = 0x0707_0707_0707_07fd << (8 * k);
-    if lanes >> (8 * k) == end >> (8 * k) {
-        let code = (0xffe1_d2cc_b4aa_9987 >> (8 * k)) % 256;
-        return found(Kind::T, ((lanes - end) << 8) + code);
-    }
-    if k == 0 {
-        if lanes == 0x0707_0707_0707_0707 {
-            return found(Kind::C, 0x1e);
-        }
-    }
-    not_found()
-}
-
-// Data octets after a control character: a Start, in either word, after idles; two ordered sets; or what no block carries.
-fn quick_other(c0: u8, c1: u8, lanes: u64) -> Known
-    requires { ⌜ (c0 ≤ 15) × (c1 ≤ 15) × (0 < c0 + 16 * c1) × ((j : ℕ) → j < 8 → c0 + 16 * c1 + 2 ^ j ≡ 256 → ⊥) ⌝ }
-    ensures { λ z. ⌜ Quickly c0 c1 lanes z ⌝ }
-{
-    match c0 as u64 + 16 * (c1 as u64) {
-        0x01 => if lanes % 256 == 0xfb {
-            found(Kind::S, lanes - 0xfb + 0x78)
-        } else {
-            not_found()
-        },
-        0x11 => if lanes % 256 == 0x9c {
-            if (lanes >> 32) % 256 == 0x9c {
-                found(Kind::C, lanes - 0x9c_0000_009c + 0x55)
-            } else {
-                not_found()
-            }
-        } else {
-            not_found()
-        },
-        0x1f => if lanes % 0x0100_0000_0000 == 0xfb_0707_0707 {
-            found(Kind::S, lanes - 0xfb_0707_0707 + 0x33)
-        } else {
-            not_found()
-        },
-        0xf1 => not_found(),
-        _ => found(Kind::E, 0x3c78_f1e3_c78f_1e1e),
-    }
-}
-
-fn quick(c0: u8, c1: u8, lanes: u64) -> Known
-    requires { ⌜ (c0 ≤ 15) × (c1 ≤ 15) ⌝ }
-    ensures { λ z. ⌜ Quickly c0 c1 lanes z ⌝ }
-    ensures { λ z. ⌜ (z .there ≡ false → 0 < c0 + 16 * c1) ⌝ }
-{
-    if c0 as u64 + 16 * (c1 as u64) == 0 {
-        return Known {
-            there: true,
-            kind: Kind::D,
-            header: 2,
-            payload: lanes,
-        };
-    }
-    let k = before(c0, c1);
-    if k < 8 {
-        return quick_end(k, c0, c1, lanes);
-    }
-    quick_other(c0, c1, lanes)
 }
 
 // A vector as two words: control bytes and lanes, lane 0 lowest. What the rows answer is handed on field by field, and asked for at two

@@ -14,8 +14,8 @@ use Rattle.refusals.specs.First.{accepted, first, byVerdict}
 use Rattle.refusals.specs.First.{refused as refuses}
 use Rattle.records.specs.Record.{Answer, whole, end, refused, twoAt, unknownKind, notGroups, readChecks, readAt, bodyOf, wantedOf}
 use Rattle.records.proofs.Laws.{by-test, inside}
-use Rattle.gather.specs.Gather.{Gathered, more, done, stop, failed, judged, next, Read, window, failure, nextRead}
-use Rattle.gather.specs.File.{placeAfter, gathering, gatheredFrom, windowOf, windows, after, Going, on, IsWindow, InTurn, bytesRead, Concluded, by-end, by-refusal}
+use Rattle.gather.specs.Gather.{Gathered, more, done, stop, failed, judged, next, RecordRead, window, failure, nextRead}
+use Rattle.gather.specs.File.{placeAfter, gathering, gatheredFrom, recordWindow, windows, gatheredAfter, Going, on, IsWindow, InTurn, bytesRead, Concluded, by-end, by-refusal}
 
 -- An answer with its places counted from the head.
 abbrev pub rebased : Answer → Answer
@@ -73,8 +73,8 @@ module _ (limit : ℕ) where
       (by-rows (leb (length s) at) (ltb (length s - at) 4) (ltb limit (twoAt s at)) (unknownKind (twoAt s (at + 2))) (ltb (length s - (at + 4)) (twoAt s at)) (notGroups (twoAt s (at + 2)) (twoAt s at)) (twoAt s (at + 2)) (at + 4) (twoAt s at) (at + 4 + twoAt s at) at)
 
   -- A window is the rest itself where that is no longer.
-  window-all : (r : List ℕ) → length r ≤ 4 + wantedOf limit (take 4 r) → windowOf limit r ≡ r
-  unfolding windowOf
+  window-all : (r : List ℕ) → length r ≤ 4 + wantedOf limit (take 4 r) → recordWindow limit r ≡ r
+  unfolding recordWindow
   window-all r h = take-all (4 + wantedOf limit (take 4 r)) r h
 
   -- What the head asks for, where there is a head.
@@ -105,8 +105,8 @@ module _ (limit : ℕ) where
       simp (l, k, t, u, t′, u′, lt-leb n 0 (omega arith), lt-leb (4 + twoAt r 0) 0 (omega arith), le-ltb (n - 0) 4 (omega arith), le-ltb (4 + twoAt r 0 - 0) 4 (omega arith), le-ltb (n - (0 + 4)) (twoAt r 0) (omega arith), le-ltb (4 + twoAt r 0 - (0 + 4)) (twoAt r 0) (omega arith))
 
   -- The window of a record is read as the rest of the file is.
-  pub read-window : (r : List ℕ) → readAt limit (windowOf limit r) 0 ≡ readAt limit r 0
-  unfolding windowOf
+  pub read-window : (r : List ℕ) → readAt limit (recordWindow limit r) 0 ≡ readAt limit r 0
+  unfolding recordWindow
   read-window r =
       by-test (leb (length r) (4 + wantedOf limit (take 4 r)))
       (λ h. ap (λ (l : List ℕ). readAt limit l 0) (window-all r (leb-true _ _ h)))
@@ -118,13 +118,13 @@ module _ (limit : ℕ) where
       ap (λ (n : ℕ). readAt limit (take (4 + n) r) 0) w ∙ sym (ap (λ (l : List ℕ). readAt limit l 0) (sym all) ∙ read-fits r (length r) q (omega (arith, g, w)) (omega arith))))
 
   -- A window's answer is the file's, with its places counted from the head.
-  pub read-local : (file : List ℕ) (at : ℕ) → readAt limit (windowOf limit (drop at file)) 0 ≡ rebased (readAt limit file at)
+  pub read-local : (file : List ℕ) (at : ℕ) → readAt limit (recordWindow limit (drop at file)) 0 ≡ rebased (readAt limit file at)
   read-local file at = read-window (drop at file) ∙ read-drop file at
 
   module _ (file : List ℕ) (at k start len nx : ℕ) (e : readAt limit file at ≡ whole k start len nx) where
     -- A whole record's window is its head and its body.
-    window-is : windowOf limit (drop at file) ≡ take (4 + len) (drop at file)
-    unfolding windowOf
+    window-is : recordWindow limit (drop at file) ≡ take (4 + len) (drop at file)
+    unfolding recordWindow
     window-is =
         let i = inside limit file at k start len nx e in
         let r = drop at file in
@@ -138,7 +138,7 @@ module _ (limit : ℕ) where
     long-enough = let i = inside limit file at k start len nx e in omega (arith, length-drop at file, i .fits, i .start-is)
 
     -- The body in the window is the body in the file.
-    body-local : bodyOf (windowOf limit (drop at file)) 4 len ≡ bodyOf file start len
+    body-local : bodyOf (recordWindow limit (drop at file)) 4 len ≡ bodyOf file start len
     unfolding bodyOf
     body-local =
         let i = inside limit file at k start len nx e in
@@ -149,23 +149,23 @@ module _ (limit : ℕ) where
         (cut (drop at file) len long-enough ∙ ap (take len) (drop-drop 4 at file ∙ ap (λ (k : ℕ). drop k file) g)))
 
     -- The rest after the window is the file from the next place on.
-    rest-is : drop (length (windowOf limit (drop at file))) (drop at file) ≡ drop nx file
+    rest-is : drop (length (recordWindow limit (drop at file))) (drop at file) ≡ drop nx file
     rest-is =
         let i = inside limit file at k start len nx e in
-        let l : length (windowOf limit (drop at file)) ≡ 4 + len = ap length window-is ∙ length-take-le (4 + len) (drop at file) long-enough in
-        let p : at + length (windowOf limit (drop at file)) ≡ nx = omega (arith, l, i .start-is, i .next-is) in
-        drop-drop (length (windowOf limit (drop at file))) at file ∙ ap (λ (q : ℕ). drop q file) p
+        let l : length (recordWindow limit (drop at file)) ≡ 4 + len = ap length window-is ∙ length-take-le (4 + len) (drop at file) long-enough in
+        let p : at + length (recordWindow limit (drop at file)) ≡ nx = omega (arith, l, i .start-is, i .next-is) in
+        drop-drop (length (recordWindow limit (drop at file))) at file ∙ ap (λ (q : ℕ). drop q file) p
 
   module _ (kind most : ℕ) where
     -- One record by its window is that record of the file.
-    judged-local : (file : List ℕ) (at : ℕ) (bytes : List ℕ) (a : Answer) → readAt limit file at ≡ a → judged kind most (windowOf limit (drop at file)) bytes (rebased a) ≡ judged kind most file bytes a
+    judged-local : (file : List ℕ) (at : ℕ) (bytes : List ℕ) (a : Answer) → readAt limit file at ≡ a → judged kind most (recordWindow limit (drop at file)) bytes (rebased a) ≡ judged kind most file bytes a
     judged-local file at bytes (whole k start len nx) e = simp (body-local file at k start len nx e)
     judged-local file at bytes end e = refl
     judged-local file at bytes (refused n p) e = refl
 
     -- So one step by the window is that step on the file.
-    next-local : (file : List ℕ) (at : ℕ) (g : Gathered) → next limit kind most (windowOf limit (drop at file)) 0 g ≡ next limit kind most file at g
-    next-local file at (more bytes) = ap (judged kind most (windowOf limit (drop at file)) bytes) (read-local file at) ∙ judged-local file at bytes (readAt limit file at) refl
+    next-local : (file : List ℕ) (at : ℕ) (g : Gathered) → next limit kind most (recordWindow limit (drop at file)) 0 g ≡ next limit kind most file at g
+    next-local file at (more bytes) = ap (judged kind most (recordWindow limit (drop at file)) bytes) (read-local file at) ∙ judged-local file at bytes (readAt limit file at) refl
     next-local file at (done bytes) = refl
     next-local file at (stop n bytes) = refl
     next-local file at (failed bytes) = refl
@@ -182,20 +182,20 @@ concluded (by-end b) = ended b
 concluded (by-refusal n b) = stopped n b
 
 -- No read failed.
-data Sound : Gathered → Type 0 where
-  so-far : (bytes : List ℕ) → Sound (more bytes)
-  at-end : (bytes : List ℕ) → Sound (done bytes)
-  at-stop : (n : ℕ) (bytes : List ℕ) → Sound (stop n bytes)
+data NoFailure : Gathered → Type 0 where
+  so-far : (bytes : List ℕ) → NoFailure (more bytes)
+  at-end : (bytes : List ℕ) → NoFailure (done bytes)
+  at-stop : (n : ℕ) (bytes : List ℕ) → NoFailure (stop n bytes)
 
 -- So it is over by an end or a refusal.
-by-either : {g : Gathered} → Over g → Sound g → Concluded g
+by-either : {g : Gathered} → Over g → NoFailure g → Concluded g
 by-either (ended b) s = by-end b
 by-either (stopped n b) s = by-refusal n b
 
 module _ (limit kind most : ℕ) where
   -- From then on nothing changes.
-  still : (rs : List Read) {g : Gathered} → Over g → after limit kind most rs g ≡ g
-  unfolding after
+  still : (rs : List RecordRead) {g : Gathered} → Over g → gatheredAfter limit kind most rs g ≡ g
+  unfolding gatheredAfter
   still [] o = refl
   still (window w ∷ rs) (ended b) = still rs (ended b)
   still (window w ∷ rs) (stopped n b) = still rs (stopped n b)
@@ -227,22 +227,22 @@ module _ (limit kind most : ℕ) where
   over-refused s at (failed b) m p e = broken b
 
   -- From one record to the next, where the rest of the file is done by `ih`.
-  onward : (n : ℕ) (file : List ℕ) → ((at : ℕ) (g : Gathered) → after limit kind most (windows limit n (drop at file)) g ≡ gathering limit kind most n file at g)
+  onward : (n : ℕ) (file : List ℕ) → ((at : ℕ) (g : Gathered) → gatheredAfter limit kind most (windows limit n (drop at file)) g ≡ gathering limit kind most n file at g)
       → (at : ℕ) (g : Gathered) (a : Answer) → readAt limit file at ≡ a
-      → after limit kind most (windows limit n (drop (length (windowOf limit (drop at file))) (drop at file))) (next limit kind most file at g)
+      → gatheredAfter limit kind most (windows limit n (drop (length (recordWindow limit (drop at file))) (drop at file))) (next limit kind most file at g)
       ≡ gathering limit kind most n file (placeAfter at a) (next limit kind most file at g)
   onward n file ih at g (whole k start len nx) e =
-      ap (λ (r : List ℕ). after limit kind most (windows limit n r) (next limit kind most file at g)) (rest-is limit file at k start len nx e)
+      ap (λ (r : List ℕ). gatheredAfter limit kind most (windows limit n r) (next limit kind most file at g)) (rest-is limit file at k start len nx e)
       ∙ ih nx (next limit kind most file at g)
   onward n file ih at g end e = let o = over-end file at g e in still _ o ∙ sym (still-file n file at o)
   onward n file ih at g (refused m p) e = let o = over-refused file at g m p e in still _ o ∙ sym (still-file n file at o)
 
   -- The program's windows come to what the definition says of the file.
-  pub by-windows : (n : ℕ) (file : List ℕ) (at : ℕ) (g : Gathered) → after limit kind most (windows limit n (drop at file)) g ≡ gathering limit kind most n file at g
-  unfolding after gathering windows
+  pub by-windows : (n : ℕ) (file : List ℕ) (at : ℕ) (g : Gathered) → gatheredAfter limit kind most (windows limit n (drop at file)) g ≡ gathering limit kind most n file at g
+  unfolding gatheredAfter gathering windows
   by-windows zero file at g = refl
   by-windows (suc n) file at g =
-      ap (after limit kind most (windows limit n (drop (length (windowOf limit (drop at file))) (drop at file)))) (next-local limit kind most file at g)
+      ap (gatheredAfter limit kind most (windows limit n (drop (length (recordWindow limit (drop at file))) (drop at file)))) (next-local limit kind most file at g)
       ∙ onward n file (by-windows n file) at g (readAt limit file at) refl
 
   -- A file of at most 4 n bytes from the place on is through after n + 1 records: each has four bytes at least.
@@ -264,11 +264,11 @@ module _ (limit kind most : ℕ) where
       (λ k start len nx w. let i = inside limit file at k start len nx w in enough n file nx (next limit kind most file at g) (omega (arith, i .start-is, i .next-is, l)))
 
   -- All windows of a file gather what all its records gather; and then it is over.
-  pub whole-file : (file : List ℕ) → after limit kind most (windows limit (suc (length file)) file) (more []) ≡ gatheredFrom limit kind most file
+  pub whole-file : (file : List ℕ) → gatheredAfter limit kind most (windows limit (suc (length file)) file) (more []) ≡ gatheredFrom limit kind most file
   whole-file file = by-windows (suc (length file)) file 0 (more [])
 
   -- A record brings no failed read.
-  judged-sound : (s bytes : List ℕ) (a : Answer) → Sound (judged kind most s bytes a)
+  judged-sound : (s bytes : List ℕ) (a : Answer) → NoFailure (judged kind most s bytes a)
   unfolding first
   judged-sound s bytes end = at-end bytes
   judged-sound s bytes (refused n p) = at-stop n bytes
@@ -278,13 +278,13 @@ module _ (limit kind most : ℕ) where
       (λ t. simp t (at-stop 8 bytes))
 
   -- The same of one step.
-  next-sound : (s : List ℕ) (at : ℕ) {g : Gathered} → Sound g → Sound (next limit kind most s at g)
+  next-sound : (s : List ℕ) (at : ℕ) {g : Gathered} → NoFailure g → NoFailure (next limit kind most s at g)
   next-sound s at (so-far b) = judged-sound s b (readAt limit s at)
   next-sound s at (at-end b) = at-end b
   next-sound s at (at-stop n b) = at-stop n b
 
   -- And of all records of a file.
-  file-sound : (n : ℕ) (file : List ℕ) (at : ℕ) {g : Gathered} → Sound g → Sound (gathering limit kind most n file at g)
+  file-sound : (n : ℕ) (file : List ℕ) (at : ℕ) {g : Gathered} → NoFailure g → NoFailure (gathering limit kind most n file at g)
   unfolding gathering
   file-sound zero file at s = s
   file-sound (suc n) file at s = file-sound n file (placeAfter at (readAt limit file at)) (next-sound file at s)
@@ -301,14 +301,14 @@ module _ (limit kind most : ℕ) where
   as-many (suc n) (suc m) file at g o p = as-many n m file (placeAfter at (readAt limit file at)) (next limit kind most file at g) o p
 
   -- One read more.
-  pub after-one : (rs : List Read) (r : Read) (g : Gathered) → after limit kind most (rs ++ r ∷ []) g ≡ nextRead limit kind most r (after limit kind most rs g)
-  unfolding after
+  pub after-one : (rs : List RecordRead) (r : RecordRead) (g : Gathered) → gatheredAfter limit kind most (rs ++ r ∷ []) g ≡ nextRead limit kind most r (gatheredAfter limit kind most rs g)
+  unfolding gatheredAfter
   after-one [] r g = refl
   after-one (q ∷ rs) r g = after-one rs r (nextRead limit kind most q g)
 
   -- It is made in its turn.
-  pub in-turn-one : (rs : List Read) (r : Read) (g : Gathered) → InTurn limit kind most rs g → Going (after limit kind most rs g) → IsWindow limit r → InTurn limit kind most (rs ++ r ∷ []) g
-  unfolding after
+  pub in-turn-one : (rs : List RecordRead) (r : RecordRead) (g : Gathered) → InTurn limit kind most rs g → Going (gatheredAfter limit kind most rs g) → IsWindow limit r → InTurn limit kind most (rs ++ r ∷ []) g
+  unfolding gatheredAfter
   in-turn-one [] r g t o w = (o, w, tt)
   in-turn-one (q ∷ rs) r g t o w = (t .0, t .1, in-turn-one rs r (nextRead limit kind most q g) (t .2) o w)
 
@@ -323,8 +323,8 @@ ungoing = elim [ ]
 -- Reads of which the last brought an end or a refusal are the windows of the bytes that were read.
 module _ (limit : ℕ) where
   -- What stands behind a whole window does not change it.
-  window-front : (w rest : List ℕ) → 4 + wantedOf limit (take 4 w) ≤ length w → windowOf limit w ≡ w → windowOf limit (w ++ rest) ≡ w
-  unfolding windowOf
+  window-front : (w rest : List ℕ) → 4 + wantedOf limit (take 4 w) ≤ length w → recordWindow limit w ≡ w → recordWindow limit (w ++ rest) ≡ w
+  unfolding recordWindow
   window-front w rest h e =
       ap (λ (head : List ℕ). take (4 + wantedOf limit head) (w ++ rest)) (take-append-le 4 w rest (omega arith))
       ∙ take-append-le (4 + wantedOf limit (take 4 w)) w rest h
@@ -338,25 +338,25 @@ module _ (limit : ℕ) where
         omega (arith, wanted-len limit w (omega (arith, i .fits, i .start-is)) (omega (arith, i .small, i .len-is)), i .fits, i .start-is, i .len-is)
 
     -- So are all reads but the last, and the last is what was left.
-    pub reads-are : (r : Read) (rs : List Read) {g : Gathered} → Going g → IsWindow limit r → InTurn limit kind most rs (nextRead limit kind most r g)
-        → Concluded (after limit kind most rs (nextRead limit kind most r g)) → windows limit (suc (length rs)) (bytesRead (r ∷ rs)) ≡ r ∷ rs
-    unfolding after windows
+    pub reads-are : (r : RecordRead) (rs : List RecordRead) {g : Gathered} → Going g → IsWindow limit r → InTurn limit kind most rs (nextRead limit kind most r g)
+        → Concluded (gatheredAfter limit kind most rs (nextRead limit kind most r g)) → windows limit (suc (length rs)) (bytesRead (r ∷ rs)) ≡ r ∷ rs
+    unfolding gatheredAfter windows
     reads-are failure [] (on b) i t s = unconcluded s
     reads-are failure (q ∷ rs) (on b) i t s = ungoing (t .0)
-    reads-are (window w) [] o i t s = ap (λ (l : List ℕ). window l ∷ []) (ap (windowOf limit) (append-nil w) ∙ i)
+    reads-are (window w) [] o i t s = ap (λ (l : List ℕ). window l ∷ []) (ap (recordWindow limit) (append-nil w) ∙ i)
     reads-are (window w) (q ∷ rs) (on b) i t s =
         let rest = bytesRead (q ∷ rs) in
         let f = window-front w rest (going-whole w b (readAt limit w 0) refl (t .0)) i in
-        let d : drop (length (windowOf limit (w ++ rest))) (w ++ rest) ≡ rest = ap (λ (l : List ℕ). drop (length l) (w ++ rest)) f ∙ drop-append-seam w rest in
-        ap (λ (l : List ℕ). window l ∷ windows limit (suc (length rs)) (drop (length (windowOf limit (w ++ rest))) (w ++ rest))) f
+        let d : drop (length (recordWindow limit (w ++ rest))) (w ++ rest) ≡ rest = ap (λ (l : List ℕ). drop (length l) (w ++ rest)) f ∙ drop-append-seam w rest in
+        ap (λ (l : List ℕ). window l ∷ windows limit (suc (length rs)) (drop (length (recordWindow limit (w ++ rest))) (w ++ rest))) f
         ∙ ap (λ (l : List ℕ). window w ∷ windows limit (suc (length rs)) l) d
-        ∙ ap (λ (l : List Read). window w ∷ l) (reads-are q rs (t .0) (t .1) (t .2) s)
+        ∙ ap (λ (l : List RecordRead). window w ∷ l) (reads-are q rs (t .0) (t .1) (t .2) s)
 
     -- What they come to is what the definition says of the file that was read.
-    pub file-read : (rs : List Read) → InTurn limit kind most rs (more []) → Concluded (after limit kind most rs (more [])) → after limit kind most rs (more []) ≡ gatheredFrom limit kind most (bytesRead rs)
-    unfolding after
+    pub file-read : (rs : List RecordRead) → InTurn limit kind most rs (more []) → Concluded (gatheredAfter limit kind most rs (more [])) → gatheredAfter limit kind most rs (more []) ≡ gatheredFrom limit kind most (bytesRead rs)
+    unfolding gatheredAfter
     file-read (r ∷ rs) t s =
         let file = bytesRead (r ∷ rs) in
-        let e : after limit kind most (r ∷ rs) (more []) ≡ gathering limit kind most (suc (length rs)) file 0 (more []) =
-        ap (λ (l : List Read). after limit kind most l (more [])) (sym (reads-are r rs (t .0) (t .1) (t .2) s)) ∙ by-windows limit kind most (suc (length rs)) file 0 (more []) in
+        let e : gatheredAfter limit kind most (r ∷ rs) (more []) ≡ gathering limit kind most (suc (length rs)) file 0 (more []) =
+        ap (λ (l : List RecordRead). gatheredAfter limit kind most l (more [])) (sym (reads-are r rs (t .0) (t .1) (t .2) s)) ∙ by-windows limit kind most (suc (length rs)) file 0 (more []) in
         e ∙ as-many limit kind most (suc (length rs)) (suc (length file)) file 0 (more []) (subst Over e (concluded s)) (concluded (over limit kind most file))

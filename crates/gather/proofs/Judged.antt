@@ -9,34 +9,34 @@ use lib.Seq.{length-take-le}
 use lib.Dec.{ltb, eqb}
 use borrow.Author.Tests.{eq-eqb, ne-eqb, lt-ltb, le-ltb, ltb-false}
 use Rattle.refusals.specs.First.{first}
-use Rattle.place.specs.Placed.{placed}
-use Rattle.place.proofs.Laws.{placed-on}
+use Rattle.putting.specs.Overlaid.{overlaid}
+use Rattle.putting.proofs.Laws.{overlaid-on}
 use Rattle.records.specs.Record.{Answer, whole, end, refused, readAt, bodyOf}
 use Rattle.records.proofs.Laws.{by-test, body-length}
-use Rattle.gather.specs.Gather.{judged, Gathered, more, next, Read, window, failure, nextRead, readOf, bytesIn, Turn, soFar, inAll, refusal, turnIn, Shows}
+use Rattle.gather.specs.Gather.{judged, Gathered, more, next, RecordRead, window, failure, nextRead, readOf, bytesIn, Turn, soFar, inAll, refusal, turnIn, Shows}
 use Rattle.gather.specs.declared.Got.{Got}
 use Rattle.gather.specs.declared.Got.the-variants as Came
 use Rattle.gather.specs.declared.Step as S
 use Rattle.gather.specs.declared.Step.the-variants as Case
 
 -- What is gathered stays in the store, from its start on.
-pub kept : (used : ℕ) (store : List ℕ) → used ≤ length store → placed 0 (take used store) store ≡ store
-unfolding placed
+pub kept : (used : ℕ) (store : List ℕ) → used ≤ length store → overlaid 0 (take used store) store ≡ store
+unfolding overlaid
 kept used store h =
     let n : 0 + length (take used store) ≡ used = omega (arith, length-take-le used store h) in
     ap (λ (k : ℕ). take used store ++ drop k store) n ∙ take-append-drop used store
 
 -- A body is put after it.
-pub grown : (used : ℕ) (store body : List ℕ) → used + length body ≤ length store → placed used body store ≡ placed 0 (take used store ++ body) store
+pub grown : (used : ℕ) (store body : List ℕ) → used + length body ≤ length store → overlaid used body store ≡ overlaid 0 (take used store ++ body) store
 grown used store body h =
     let l = length-take-le used store (omega arith) in
-    ap (placed used body) (sym (kept used store (omega arith)))
-    ∙ placed-on 0 used (take used store) body store (omega arith) (omega arith)
+    ap (overlaid used body) (sym (kept used store (omega arith)))
+    ∙ overlaid-on 0 used (take used store) body store (omega arith) (omega arith)
 
 module _ (limit kind used : ℕ) (w store : List ℕ) (fits : used ≤ length store) where
   -- What a step says and leaves in the store, where the gathering then stands so.
   abbrev pub Step : Turn → List ℕ → Gathered → Type 0
-  Step turn exit g = (turn ≡ turnIn g) × (exit ≡ placed 0 (bytesIn g) store)
+  Step turn exit g = (turn ≡ turnIn g) × (exit ≡ overlaid 0 (bytesIn g) store)
 
   -- The same for the record in the window.
   abbrev pub Judged : Turn → List ℕ → Type 0
@@ -64,13 +64,13 @@ module _ (limit kind used : ℕ) (w store : List ℕ) (fits : used ≤ length st
         simp (found, eq-eqb k kind e, t) (refl, sym (kept used store fits))
 
     -- A record that is taken.
-    pub taken : (body exit : List ℕ) → k ≡ kind → len ≤ length store - used → body ≡ bodyOf w start len → exit ≡ placed used body store → Judged (soFar (used + len)) exit
+    pub taken : (body exit : List ℕ) → k ≡ kind → len ≤ length store - used → body ≡ bodyOf w start len → exit ≡ overlaid used body store → Judged (soFar (used + len)) exit
     unfolding first
     taken body exit e m b x =
         let t = le-ltb (length store) (length (take used store) + len) (omega (arith, length-take-le used store fits)) in
         let n = body-length limit w 0 k start len nx found in
         let l : length (take used store ++ bodyOf w start len) ≡ used + len = omega (arith, length-append (take used store) (bodyOf w start len), length-take-le used store fits, n) in
-        simp (found, eq-eqb k kind e, t) (ap soFar (sym l), x ∙ ap (λ (p : List ℕ). placed used p store) b ∙ grown used store (bodyOf w start len) (omega (arith, n)))
+        simp (found, eq-eqb k kind e, t) (ap soFar (sym l), x ∙ ap (λ (p : List ℕ). overlaid used p store) b ∙ grown used store (bodyOf w start len) (omega (arith, n)))
 
 -- What reading came to, told apart.
 module _ (limit kind used : ℕ) (got : Got) (buffer store : List ℕ) where
@@ -103,7 +103,7 @@ grows-on limit kind most s at bytes (whole k start len nx) h e =
     (λ t. simp t (le-refl (length bytes), h))
 
 -- The same of one read.
-pub grows : (limit kind most : ℕ) (r : Read) (bytes : List ℕ) → length bytes ≤ most
+pub grows : (limit kind most : ℕ) (r : RecordRead) (bytes : List ℕ) → length bytes ≤ most
     → let g = nextRead limit kind most r (more bytes) in (length bytes ≤ length (bytesIn g)) × (length (bytesIn g) ≤ most)
 grows limit kind most (window w) bytes h = grows-on limit kind most w 0 bytes (readAt limit w 0) h refl
 grows limit kind most failure bytes h = (le-refl (length bytes), h)

@@ -8,7 +8,7 @@ use lib.ListN.{length, take}
 use lib.Dec.{ltb, eqb}
 use Rattle.refusals.specs.Number.{numberOf}
 use Rattle.refusals.specs.First.{check, first, byVerdict}
-use Rattle.place.specs.Placed.{placed}
+use Rattle.putting.specs.Overlaid.{overlaid}
 use Rattle.records.specs.Record.{Answer, whole, end, refused, readAt, bodyOf}
 use Rattle.gather.specs.declared.Got.{Got}
 use Rattle.gather.specs.declared.Got.the-variants as Came
@@ -44,17 +44,17 @@ abbrev pub next : (limit kind most : ℕ) (s : List ℕ) (at : ℕ) → Gathered
 next limit kind most s at = goOn (λ bytes. judged kind most s bytes (readAt limit s at))
 
 -- what a program reads at a time: the bytes of one record, as far as the input has them; or the read fails
-pub data Read : Type 0 where
-  window : (bytes : List ℕ) → Read
-  failure : Read
+pub data RecordRead : Type 0 where
+  window : (bytes : List ℕ) → RecordRead
+  failure : RecordRead
 
 -- one read more
-abbrev pub nextRead : (limit kind most : ℕ) → Read → Gathered → Gathered
+abbrev pub nextRead : (limit kind most : ℕ) → RecordRead → Gathered → Gathered
 nextRead limit kind most (window bytes) = next limit kind most bytes 0
 nextRead limit kind most failure = goOn failed
 
 -- what was read, by what reading into the buffer came to
-abbrev pub readOf : Got → (buffer : List ℕ) → Read
+abbrev pub readOf : Got → (buffer : List ℕ) → RecordRead
 readOf (Came.Bytes n) buffer = window (take n buffer)
 readOf (Came.End n) buffer = window (take n buffer)
 readOf Came.Failed buffer = failure
@@ -94,4 +94,4 @@ turnOf Case.Failed = inputFailed
 
 -- where the gathering stands so: the step says it, and the store holds all bytes from its start on
 abbrev pub Shows : Gathered → (entry : List ℕ) → Step → (exit : List ℕ) → Type 0
-Shows g entry step exit = (turnOf step ≡ turnIn g) × (exit ≡ placed 0 (bytesIn g) entry)
+Shows g entry step exit = (turnOf step ≡ turnIn g) × (exit ≡ overlaid 0 (bytesIn g) entry)

@@ -48,7 +48,7 @@ fn judge_window(window: &[u8], kind: usize, store: &mut [u8], used: usize) -> St
             if left < len {
                 return Step::Refused(Refusal::TooMuch);
             }
-            place::put(records::body(window, start, len), store, used);
+            putting::put(records::body(window, start, len), store, used);
             Step::More(used + len)
         }
     }

@@ -1,14 +1,13 @@
 -- Receiving through C, case by case: a slice too short, an answer, a refusal. Assumes nothing.
 use Prim.Native.Nat.{ℕ, _+_, _*_, _/_, _≤_}
 use mathlib.Core.Path.{_≡_, refl, sym, ap, ap₂, _∙_}
-use mathlib.Core.Bool.{Bool, true, false, cond, _||_, true≢false}
+use mathlib.Core.Bool.{Bool, true, false, _||_, true≢false}
 use mathlib.Core.List.{List, [], _∷_, _++_}
 use native.Mathlib.Omega.{arith}
-use native.Mathlib.Nat.{add-zero}
-use lib.ListN.{length, drop, replicate}
+use lib.ListN.{length, take, drop, replicate}
 use lib.Dec.{ltb}
 use borrow.Author.Tests.{ltb-false}
-use Rattle.refusals.specs.First.{check, Verdict, accepted, refused, first, byVerdict}
+use Rattle.refusals.specs.First.{Check, check, Verdict, accepted, refused, first, byVerdict}
 use Rattle.block.specs.declared.Edition.{Edition}
 use Rattle.block.specs.Block.{editionOf}
 use Rattle.receiving.specs.Answer.{ReceiveAnswer, received, receiveChecks, summaryOf, receiveAnswer, receiveRoom}
@@ -19,73 +18,56 @@ use Rattle.counters.specs.Counters.{countersAfter}
 use Rattle.counters.specs.declared.Counters.{Counters}
 use Rattle.slices.specs.Slices.{resultOf, wordBytes, tooShort, summaryWith, countersIn, countersWith, receiveLength, shortSlice, receiveWords}
 use Rattle.holzmotte.specs.Boundary.{receiveVerdict, receiveResult, receiveVectors, receiveSummary, receiveCounters, ReceivesThroughC}
-use Rattle.slices.proofs.Laws.{first-after, shortOf, summary-long}
+use Rattle.slices.proofs.Laws.{first-after, place-zero, summary-long}
+use Rattle.slices.proofs.Applied.{shortOf, never, short-result}
 
 -- what a match finds of an answer has its values
 pub as-found : (w : ReceiveAnswer) {x y : Received} → x ≡ y → Answer.answerOf x ≡ w → Answer.answerOf y ≡ w
 as-found w e q = ap Answer.answerOf (sym e) ∙ q
 
 -- an answer tells the verdict
-abbrev pub verdictOf : ReceiveAnswer → Verdict
-verdictOf (received s) = accepted
-verdictOf (Answer.refused number place) = refused number place
+abbrev pub verdictReceived : ReceiveAnswer → Verdict
+verdictReceived (received s) = accepted
+verdictReceived (Answer.refused number place) = refused number place
 
-told : (v : Verdict) (ed : Edition) (line : List ℕ) → verdictOf (byVerdict v (received (summaryOf ed line)) Answer.refused) ≡ v
+told : (v : Verdict) (ed : Edition) (line : List ℕ) → verdictReceived (byVerdict v (received (summaryOf ed line)) Answer.refused) ≡ v
 told accepted ed line = refl
 told (refused n p) ed line = refl
 
--- a refusal's place is 0
-placed : (z a b : Bool) (n p : ℕ) → first (check 13 z ∷ check 1 a ∷ check 4 b ∷ []) ≡ refused n p → p ≡ 0
+-- no room, where none is needed or where some is
+no-room : (b : Bool) → shortOf (first (check 4 b ∷ [])) ≡ 4
 unfolding first
-placed true a b n p e = cc
-placed false true b n p e = cc
-placed false false true n p e = cc
-placed false false false n p e = cc
-
--- a slice too short: 13 and 1 come before it, and it before all else
-shortened : (z a b : Bool) → first (check 13 z ∷ check 1 a ∷ check 4 true ∷ check 4 b ∷ []) ≡ refused (cond z 13 (cond a 1 4)) 0
-unfolding first
-shortened true a b = refl
-shortened false true b = refl
-shortened false false b = refl
-
-shortly-one : (z a b : Bool) → shortOf (first (check 13 z ∷ check 1 a ∷ check 4 b ∷ [])) ≡ cond z 13 (cond a 1 4)
-unfolding first
-shortly-one true a b = refl
-shortly-one false true b = refl
-shortly-one false false true = refl
-shortly-one false false false = refl
+no-room true = refl
+no-room false = refl
 
 module _ (edition : ℕ) where
-  verdict-told : (line : List ℕ) (room : ℕ) → verdictOf (receiveAnswer edition line room) ≡ first (receiveChecks edition (length line) room)
+  verdict-told : (line : List ℕ) (room : ℕ) → verdictReceived (receiveAnswer edition line room) ≡ first (receiveChecks edition (length line) room)
   unfolding receiveAnswer
   verdict-told line room = told (first (receiveChecks edition (length line) room)) (editionOf edition) line
 
-  place-zero : (line room n p : ℕ) → first (receiveChecks edition line room) ≡ refused n p → p ≡ 0
-  unfolding receiveChecks
-  place-zero line room n p e = placed (ltb 1 edition) (ltb 825000 line) (ltb room (10 * (8 * line / 66))) n p e
-
   module _ (line room summary counters : ℕ) (short : shortSlice summary counters ≡ true) where
-    short-verdict : receiveVerdict edition line room summary counters ≡ refused (cond (ltb 1 edition) 13 (cond (ltb 825000 line) 1 4)) 0
-    unfolding receiveVerdict receiveChecks
-    short-verdict =
-        ap (λ (b : Bool). first (check 13 (ltb 1 edition) ∷ check 1 (ltb 825000 line) ∷ check 4 b ∷ check 4 (ltb room (10 * (8 * line / 66))) ∷ [])) short
-        ∙ shortened (ltb 1 edition) (ltb 825000 line) (ltb room (10 * (8 * line / 66)))
+    abbrev checks : ℕ → List Check
+    checks = receiveChecks edition line
 
-    short-result : shortOf (first (receiveChecks edition line 0)) ≡ receiveResult edition line room summary counters
-    unfolding receiveResult receiveChecks
-    short-result =
-        shortly-one (ltb 1 edition) (ltb 825000 line) (ltb 0 (10 * (8 * line / 66))) ∙ sym (add-zero (cond {A = ℕ} (ltb 1 edition) 13 (cond (ltb 825000 line) 1 4))) ∙ sym (ap resultOf short-verdict)
+    short-refuses : receiveVerdict edition line room summary counters ≡ accepted → ⊥
+    unfolding receiveVerdict
+    short-refuses = never (take 2 (checks room)) (check 4 (shortSlice summary counters)) (drop 2 (checks room)) short
+
+    short-is : receiveResult edition line room summary counters ≡ shortOf (first (checks 0))
+    unfolding receiveResult receiveVerdict receiveChecks
+    short-is =
+        short-result (take 2 (checks room)) (shortSlice summary counters) (drop 2 (checks room)) (drop 2 (checks 0)) short (λ q. no-room (ltb 0 (10 * (8 * line / 66))))
 
   pub short-answer : (line : List ℕ) (room summary counters : ℕ) (answer : ReceiveAnswer) → answer ≡ receiveAnswer edition line 0 → shortSlice summary counters ≡ true
-      → shortOf (verdictOf answer) ≡ receiveResult edition (length line) room summary counters
+      → shortOf (verdictReceived answer) ≡ receiveResult edition (length line) room summary counters
   short-answer line room summary counters answer e l =
-      ap shortOf (ap verdictOf e ∙ verdict-told line 0) ∙ short-result (length line) room summary counters l
+      ap shortOf (ap verdictReceived e ∙ verdict-told line 0) ∙ sym (short-is (length line) room summary counters l)
 
   -- a refusal's place fits a result
   pub small : (line : List ℕ) (room number place : ℕ) → Answer.refused number place ≡ receiveAnswer edition line room → place ≤ 1000000
+  unfolding receiveChecks
   small line room number place e =
-      let z : place ≡ 0 = place-zero (length line) room number place (sym (ap verdictOf e ∙ verdict-told line room)) in
+      let z : place ≡ 0 = place-zero _ (refl, (refl, (refl, tt))) number place (sym (ap verdictReceived e ∙ verdict-told line room)) in
       omega arith
 
   -- ---- what a call comes to
@@ -104,9 +86,13 @@ module _ (edition : ℕ) where
     -- with a slice too short
     pub shortly : (r : ℕ) → shortSlice (length summary) (length counters) ≡ true → r ≡ receiveResult edition (length line) (length room) (length summary) (length counters)
         → ReceivesThroughC edition line room summary counters r room (summaryWith receiveLength (replicate receiveLength 0) summary) counters
-    shortly r l e =
-        let t = refuses _ _ (short-verdict (length line) (length room) (length summary) (length counters) l) in
-        (e, t .1, t .2, t .3)
+    shortly r l e = by verdict refl
+      where
+        by : (v : Verdict) → verdict ≡ v → ReceivesThroughC edition line room summary counters r room (summaryWith receiveLength (replicate receiveLength 0) summary) counters
+        by accepted h = absurd (short-refuses (length line) (length room) (length summary) (length counters) l h)
+        by (refused number place) h =
+            let t = refuses number place h in
+            (e, t .1, t .2, t .3)
 
     module _ (long : shortSlice (length summary) (length counters) ≡ false) where
       -- with none too short, all goes by the checks of receiving
@@ -130,7 +116,7 @@ module _ (edition : ℕ) where
           → ReceivesThroughC edition line room summary counters (number + 256 * place) room′ (summaryWith receiveLength (replicate receiveLength 0) summary) counters
       unfolding receiveRoom
       refused-so number place room′ e r =
-          let c : first (receiveChecks edition (length line) (length room)) ≡ refused number place = sym (ap verdictOf e ∙ verdict-told line (length room)) in
+          let c : first (receiveChecks edition (length line) (length room)) ≡ refused number place = sym (ap verdictReceived e ∙ verdict-told line (length room)) in
           let t = refuses number place (verdict-is ∙ c) in
           (t .0, r ∙ rw c (t .1), t .2, t .3)
 
@@ -141,7 +127,7 @@ module _ (edition : ℕ) where
           → ReceivesThroughC edition line room summary counters 0 room′ summary′ counters′
       unfolding receiveAnswer receiveResult receiveVectors receiveSummary receiveCounters
       received-so s old new room′ summary′ counters′ e r w o n k =
-          let a : first (receiveChecks edition (length line) (length room)) ≡ accepted = sym (ap verdictOf e ∙ verdict-told line (length room)) in
+          let a : first (receiveChecks edition (length line) (length room)) ≡ accepted = sym (ap verdictReceived e ∙ verdict-told line (length room)) in
           let v : verdict ≡ accepted = verdict-is ∙ a in
           let z : received s ≡ received (summaryOf (editionOf edition) line) = e ∙ ap (λ (u : Verdict). byVerdict u (received (summaryOf (editionOf edition) line)) Answer.refused) a in
           let t : receiveAnswer edition line (length room) ≡ received (summaryOf (editionOf edition) line) = sym e ∙ z in (

@@ -9,12 +9,12 @@ use Rattle.block.specs.Block.{editionOf}
 use Rattle.sending.specs.Answer as Send
 use Rattle.receiving.specs.Answer as Receive
 use Rattle.counters.specs.Counters.{updated}
-use Rattle.slices.specs.Slices.{resultOf, after, tooShort, summaryWith, countersIn, countersWith, receiveLength, shortSlice, receiveWords}
+use Rattle.slices.specs.Slices.{resultOf, oneMoreAfter, tooShort, summaryWith, countersIn, countersWith, receiveLength, shortSlice, receiveWords}
 
 -- ---- sending: refusals 13, 1, 2, 3, then 4 for the summary or the room, then 5
 
 unfoldable pub sendVerdict : (edition : ℕ) → List ℕ → (start room summary : ℕ) → Verdict
-sendVerdict edition vectors start room summary = first (after 4 (check 4 (tooShort 8 3 summary)) (Send.sendChecks edition vectors start room))
+sendVerdict edition vectors start room summary = first (oneMoreAfter 4 (check 4 (tooShort 8 3 summary)) (Send.sendChecks edition vectors start room))
 
 -- its three words: end state, end diagram state, replaced; zeros for a refusal
 abbrev pub sendWords : Send.SendAnswer → List ℕ
@@ -43,7 +43,7 @@ SendsThroughC edition vectors start room summary r room′ summary′ =
 -- ---- receiving: refusals 13, 1, then 4 for the summary, the counters or the room
 
 unfoldable pub receiveVerdict : (edition line room summary counters : ℕ) → Verdict
-receiveVerdict edition line room summary counters = first (after 2 (check 4 (shortSlice summary counters)) (Receive.receiveChecks edition line room))
+receiveVerdict edition line room summary counters = first (oneMoreAfter 2 (check 4 (shortSlice summary counters)) (Receive.receiveChecks edition line room))
 
 unfoldable pub receiveResult : (edition line room summary counters : ℕ) → ℕ
 receiveResult edition line room summary counters = resultOf (receiveVerdict edition line room summary counters)

@@ -1,5 +1,4 @@
 // The C boundary: byte slices and 64-bit numbers. include/holzmotte.h says what each pointer is.
-use counters::Counters;
 use counters::receive_by_value;
 use receiving::Received;
 use reception::receive;

@@ -19,13 +19,13 @@ use Rattle.counters.specs.Counters.{updated}
 use Rattle.slices.specs.Slices.{resultOf, wordBytes, summaryWith, countersIn, countersWith, receiveLength, receiveWords}
 use Rattle.slices.proofs.Laws.{summary-long, length-words}
 use Rattle.slices.proofs.Totals.{twice-in-bytes}
-use Rattle.bursts.specs.declared.State.{State}
+use Rattle.kept_state.specs.declared.State.{State}
 use Rattle.bursts.specs.declared.Added.{Added}
 use Rattle.bursts.specs.declared.Reply.{Reply}
-use Rattle.bursts.specs.Judging.{badState, burstVerdict}
+use Rattle.judging.specs.Judging.{badState, burstVerdict}
 use Rattle.bursts.specs.Burst.{stateFresh, begun, beginAnswer, burstBytes, burstAdded, burstState, closeJudged, closeAdded, closeState, summaryIn, atStart, burstCall, closeCall, Replies}
 use Rattle.bursts.specs.Joined.{plusAdded, noneAdded, addedIn, callOf}
-use Rattle.bursts.specs.Joined as Plain
+use Rattle.bursts.specs.Joined as ByValue
 use Rattle.bursts.proofs.Sums.{added-none, added-first}
 use Rattle.bursts.proofs.Calls as Calls
 use Rattle.stored.specs.Stored.{stateIn, storedIn}
@@ -33,7 +33,7 @@ use Rattle.stored.proofs.Again.{fresh-again, burst-again, close-again}
 use Rattle.holzmotte.specs.Boundary.{ReceivesThroughC}
 use Rattle.holzmotte.proofs.Success as Success
 use Rattle.holzmotte_bursts.specs.Boundary.{BeginsThroughC, verdict, Left, leaves, spares, burstLeft, closeLeft, Leaves}
-use Rattle.holzmotte_bursts.specs.Joined.{NeverBad, Call, burst, close, leftOf, Made, Follow, takenOf, givenBy, stateAfter, countersAfter, lineAfter, bytesAfter, Whole}
+use Rattle.holzmotte_bursts.specs.Joined.{NeverBadThroughC, CallThroughC, burst, close, leftOf, MadeThroughC, FollowThroughC, takenThroughC, givenThroughC, stateThroughC, countersThroughC, lineThroughC, bytesThroughC, WholeThroughC}
 use Rattle.holzmotte_bursts.proofs.Verdicts.{begin-known, goes-on, refused-above, success}
 use Rattle.holzmotte_bursts.proofs.Slices.{both-long}
 
@@ -68,8 +68,8 @@ adds-last before now after a b (counted h) e = e ∙ ap (λ (z : List ℕ). with
 -- a refused call took nothing and left state and counters; an accepted one took, left and added what a call of `bursts` does
 data Step (state counters taken state′ vectors′ counters′ : List ℕ) : Type 0 where
   spared : taken ≡ [] → state′ ≡ state → counters′ ≡ counters → Step state counters taken state′ vectors′ counters′
-  made : (m : Plain.Made) → Replies (callOf (stateIn state) (m .call)) (m .reply) (m .room)
-      → taken ≡ Plain.takenOf (m .call) (answerOf (m .reply .answer)) → stateIn state′ ≡ m .reply .state → vectors′ ≡ m .room → counters′ ≡ with counters (m .reply .added)
+  made : (m : ByValue.Made) → Replies (callOf (stateIn state) (m .call)) (m .reply) (m .room)
+      → taken ≡ ByValue.takenBy (m .call) (answerOf (m .reply .answer)) → stateIn state′ ≡ m .reply .state → vectors′ ≡ m .room → counters′ ≡ with counters (m .reply .added)
       → Step state counters taken state′ vectors′ counters′
 
 -- the reply of a call that comes to this
@@ -97,13 +97,13 @@ module _ (state line vectors summary counters : List ℕ) where
 
   burst-step : (v : Verdict) → verdict state (length line) (length vectors) (length summary) (length counters) ≡ v
       → (r : ℕ) (state′ vectors′ summary′ counters′ : List ℕ) → Leaves (burstLeft state line vectors summary counters) r state′ vectors′ summary′ counters′
-      → Step state counters (takenOf (burst line vectors summary) r) state′ vectors′ counters′
+      → Step state counters (takenThroughC (burst line vectors summary) r) state′ vectors′ counters′
   unfolding burstLeft leaves spares
   burst-step accepted v r state′ vectors′ summary′ counters′ l =
       let w = burst-replies v in
       let e = burst-left v in
-      made (record { call = Plain.burst line vectors; reply = burst-reply; room = atStart (burstBytes s line) vectors }) w
-      (ap (takenOf (burst line vectors summary)) (l .0 ∙ ap (λ (z : Left). z .result) e))
+      made (record { call = ByValue.burst line vectors; reply = burst-reply; room = atStart (burstBytes s line) vectors }) w
+      (ap (takenThroughC (burst line vectors summary)) (l .0 ∙ ap (λ (z : Left). z .result) e))
       (ap stateIn (l .1 ∙ ap (λ (z : Left). z .state) e ∙ ap (λ (z : State). storedIn z state) (sym (w .0))) ∙ burst-again s line vectors state (burst-own v))
       (l .2 ∙ ap (λ (z : Left). z .vectors) e ∙ sym (w .3))
       (l .4 ∙ ap (λ (z : Left). z .counters) e ∙ ap (with counters) (sym (w .2)))
@@ -164,60 +164,60 @@ module _ (state vectors summary counters : List ℕ) where
       → Step state counters [] state′ vectors′ counters′
   unfolding closeLeft spares
   close-step accepted v r state′ vectors′ summary′ counters′ l =
-      made (record { call = Plain.close vectors; reply = close-reply; room = atStart (bytesOf (closeJudged t)) vectors }) (close-replies v) refl
+      made (record { call = ByValue.close vectors; reply = close-reply; room = atStart (bytesOf (closeJudged t)) vectors }) (close-replies v) refl
       (closed-state v r state′ vectors′ summary′ counters′ l) (closed-vectors v r state′ vectors′ summary′ counters′ l) (closed-counters v r state′ vectors′ summary′ counters′ l)
   close-step (refused n p) v r state′ vectors′ summary′ counters′ l =
       let e : closeLeft state vectors summary counters ≡ spares state vectors summary counters n p = rw v refl in
       spared refl (l .1 ∙ ap (λ (z : Left). z .state) e) (l .4 ∙ ap (λ (z : Left). z .counters) e)
 
-step : (state counters : List ℕ) (c : Call) (r : ℕ) (state′ vectors′ summary′ counters′ : List ℕ) → Leaves (leftOf state counters c) r state′ vectors′ summary′ counters′
-    → Step state counters (takenOf c r) state′ vectors′ counters′
+step : (state counters : List ℕ) (c : CallThroughC) (r : ℕ) (state′ vectors′ summary′ counters′ : List ℕ) → Leaves (leftOf state counters c) r state′ vectors′ summary′ counters′
+    → Step state counters (takenThroughC c r) state′ vectors′ counters′
 step state counters (burst line vectors summary) r state′ vectors′ summary′ counters′ l = burst-step state line vectors summary counters _ refl r state′ vectors′ summary′ counters′ l
 step state counters (close vectors summary) r state′ vectors′ summary′ counters′ l = close-step state vectors summary counters _ refl r state′ vectors′ summary′ counters′ l
 
 -- ---- all calls
 
 -- those that were not refused, as calls of `bursts`
-record Told (state counters : List ℕ) (ms : List Made) : Type 0 where
-  calls : List Plain.Made
-  follow : Plain.Follow (stateIn state) calls
-  line : lineAfter ms ≡ Plain.lineAfter calls
-  bytes : bytesAfter state ms ≡ Plain.bytesAfter (stateIn state) calls
-  end : stateIn (stateAfter state ms) ≡ Plain.stateAfter (stateIn state) calls
-  total : Adds counters (countersAfter counters ms) (Plain.addedAfter calls)
+record Told (state counters : List ℕ) (ms : List MadeThroughC) : Type 0 where
+  calls : List ByValue.Made
+  follow : ByValue.Follow (stateIn state) calls
+  line : lineThroughC ms ≡ ByValue.lineAfterCalls calls
+  bytes : bytesThroughC state ms ≡ ByValue.bytesAfterCalls (stateIn state) calls
+  end : stateIn (stateThroughC state ms) ≡ ByValue.stateAfterCalls (stateIn state) calls
+  total : Adds counters (countersThroughC counters ms) (ByValue.addedAfterCalls calls)
 
 -- where a state counts no more vectors, none are given
 none-given : (n : ℕ) (vectors : List ℕ) → take (10 * (n - n)) vectors ≡ []
 none-given n vectors = let z : 10 * (n - n) ≡ 0 = omega arith in ap (λ (k : ℕ). take k vectors) z
 
-told-first : (state counters : List ℕ) (m : Made) (ms : List Made) → Step state counters (takenOf (m .call) (m .result)) (m .state) (m .vectors) (m .counters)
+told-first : (state counters : List ℕ) (m : MadeThroughC) (ms : List MadeThroughC) → Step state counters (takenThroughC (m .call) (m .result)) (m .state) (m .vectors) (m .counters)
     → Told (m .state) (m .counters) ms → Told state counters (m ∷ ms)
-unfolding lineAfter bytesAfter stateAfter countersAfter Plain.lineAfter Plain.bytesAfter Plain.stateAfter Plain.addedAfter
+unfolding lineThroughC bytesThroughC stateThroughC countersThroughC ByValue.lineAfterCalls ByValue.bytesAfterCalls ByValue.stateAfterCalls ByValue.addedAfterCalls
 told-first state counters m ms (spared t es ec) w =
     record {
       calls = w .calls;
-      follow = subst (λ (z : List ℕ). Plain.Follow (stateIn z) (w .calls)) es (w .follow);
+      follow = subst (λ (z : List ℕ). ByValue.Follow (stateIn z) (w .calls)) es (w .follow);
       line = ap₂ _++_ t (w .line);
       bytes =
-          ap₂ _++_ (ap (λ (z : List ℕ). givenBy state z (m .vectors)) es ∙ none-given (stateIn state .vectors) (m .vectors))
-          (w .bytes ∙ ap (λ (z : List ℕ). Plain.bytesAfter (stateIn z) (w .calls)) es);
-      end = w .end ∙ ap (λ (z : List ℕ). Plain.stateAfter (stateIn z) (w .calls)) es;
-      total = subst (λ (z : List ℕ). Adds z (countersAfter (m .counters) ms) (Plain.addedAfter (w .calls))) ec (w .total);
+          ap₂ _++_ (ap (λ (z : List ℕ). givenThroughC state z (m .vectors)) es ∙ none-given (stateIn state .vectors) (m .vectors))
+          (w .bytes ∙ ap (λ (z : List ℕ). ByValue.bytesAfterCalls (stateIn z) (w .calls)) es);
+      end = w .end ∙ ap (λ (z : List ℕ). ByValue.stateAfterCalls (stateIn z) (w .calls)) es;
+      total = subst (λ (z : List ℕ). Adds z (countersThroughC (m .counters) ms) (ByValue.addedAfterCalls (w .calls))) ec (w .total);
     }
 told-first state counters m ms (made q p t es ev ec) w =
     record {
       calls = q ∷ w .calls;
-      follow = (p, subst (λ (z : State). Plain.Follow z (w .calls)) es (w .follow));
+      follow = (p, subst (λ (z : State). ByValue.Follow z (w .calls)) es (w .follow));
       line = ap₂ _++_ t (w .line);
       bytes =
           ap₂ _++_ (ap₂ (λ (z : State) (x : List ℕ). take (10 * (z .vectors - stateIn state .vectors)) x) es ev)
-          (w .bytes ∙ ap (λ (z : State). Plain.bytesAfter z (w .calls)) es);
-      end = w .end ∙ ap (λ (z : State). Plain.stateAfter z (w .calls)) es;
-      total = adds-first counters (m .counters) (countersAfter (m .counters) ms) (q .reply .added) (Plain.addedAfter (w .calls)) ec (w .total);
+          (w .bytes ∙ ap (λ (z : State). ByValue.bytesAfterCalls z (w .calls)) es);
+      end = w .end ∙ ap (λ (z : State). ByValue.stateAfterCalls z (w .calls)) es;
+      total = adds-first counters (m .counters) (countersThroughC (m .counters) ms) (q .reply .added) (ByValue.addedAfterCalls (w .calls)) ec (w .total);
     }
 
-told : (state counters : List ℕ) (ms : List Made) → Follow state counters ms → Told state counters ms
-unfolding lineAfter bytesAfter stateAfter countersAfter Plain.lineAfter Plain.bytesAfter Plain.stateAfter Plain.addedAfter
+told : (state counters : List ℕ) (ms : List MadeThroughC) → FollowThroughC state counters ms → Told state counters ms
+unfolding lineThroughC bytesThroughC stateThroughC countersThroughC ByValue.lineAfterCalls ByValue.bytesAfterCalls ByValue.stateAfterCalls ByValue.addedAfterCalls
 told state counters [] f = record { calls = []; follow = tt; line = refl; bytes = refl; end = refl; total = untouched refl refl }
 told state counters (m ∷ ms) f =
     told-first state counters m ms (step state counters (m .call) (m .result) (m .state) (m .vectors) (m .summary) (m .counters) (f .0)) (told (m .state) (m .counters) ms (f .1))
@@ -243,17 +243,17 @@ unfolding closeLeft leaves spares
 close-result state vectors summary counters accepted e = rw e refl
 close-result state vectors summary counters (refused n p) e = rw e refl
 
-module _ (edition : ℕ) (state counters : List ℕ) (ms : List Made) (w : Told state counters ms) (b : beginAnswer edition ≡ begun (stateIn state))
+module _ (edition : ℕ) (state counters : List ℕ) (ms : List MadeThroughC) (w : Told state counters ms) (b : beginAnswer edition ≡ begun (stateIn state))
     (vectors summary state′ vectors′ summary′ counters′ : List ℕ)
-    (l : Leaves (closeLeft (stateAfter state ms) vectors summary (countersAfter counters ms)) 0 state′ vectors′ summary′ counters′)
-    (v : verdict (stateAfter state ms) 0 (length vectors) (length summary) (length (countersAfter counters ms)) ≡ accepted)
-    (room sum room′ sum′ counters″ : List ℕ) (q : ReceivesThroughC edition (lineAfter ms) room sum counters 0 room′ sum′ counters″) where
+    (l : Leaves (closeLeft (stateThroughC state ms) vectors summary (countersThroughC counters ms)) 0 state′ vectors′ summary′ counters′)
+    (v : verdict (stateThroughC state ms) 0 (length vectors) (length summary) (length (countersThroughC counters ms)) ≡ accepted)
+    (room sum room′ sum′ counters″ : List ℕ) (q : ReceivesThroughC edition (lineThroughC ms) room sum counters 0 room′ sum′ counters″) where
   -- the state and the counters that the closing call finds
   abbrev S : List ℕ
-  S = stateAfter state ms
+  S = stateThroughC state ms
 
   abbrev found : List ℕ
-  found = countersAfter counters ms
+  found = countersThroughC counters ms
 
   -- its reply and its room, its summary, and that of the whole line
   abbrev reply : Reply
@@ -266,13 +266,13 @@ module _ (edition : ℕ) (state counters : List ℕ) (ms : List Made) (w : Told 
   said = last S vectors summary found
 
   abbrev one : Summary
-  one = summaryOf (editionOf edition) (lineAfter ms)
+  one = summaryOf (editionOf edition) (lineThroughC ms)
 
   -- the theorem of `bursts`
   abbrev Z : State
-  Z = Plain.stateAfter (stateIn state) (w .calls)
+  Z = ByValue.stateAfterCalls (stateIn state) (w .calls)
 
-  in-bursts : Plain.InBursts edition (lineAfter ms) (Plain.bytesAfter (stateIn state) (w .calls) ++ Plain.givenBy Z reply left) said
+  in-bursts : ByValue.InBursts edition (lineThroughC ms) (ByValue.bytesAfterCalls (stateIn state) (w .calls) ++ ByValue.givenBy Z reply left) said
   in-bursts =
       record {
         fresh = stateIn state;
@@ -289,28 +289,28 @@ module _ (edition : ℕ) (state counters : List ℕ) (ms : List Made) (w : Told 
       }
 
   joined : (received one ≡ received said)
-      × (room′ ≡ atStart (Plain.bytesAfter (stateIn state) (w .calls) ++ Plain.givenBy Z reply left) room)
-      × (plusAdded (Plain.addedAfter (w .calls)) (closeAdded (stateIn S)) ≡ addedIn said)
+      × (room′ ≡ atStart (ByValue.bytesAfterCalls (stateIn state) (w .calls) ++ ByValue.givenBy Z reply left) room)
+      × (plusAdded (ByValue.addedAfterCalls (w .calls)) (closeAdded (stateIn S)) ≡ addedIn said)
   unfolding in-bursts
   joined =
-      Calls.whole edition (lineAfter ms) _ said in-bursts room room′ (Done one)
-      (Success.answer-is edition (lineAfter ms) room sum counters room′ sum′ counters″ q, Success.room-is edition (lineAfter ms) room sum counters room′ sum′ counters″ q)
-      (Success.room-lent edition (lineAfter ms) room sum counters room′ sum′ counters″ q)
+      Calls.whole edition (lineThroughC ms) _ said in-bursts room room′ (Done one)
+      (Success.answer-is edition (lineThroughC ms) room sum counters room′ sum′ counters″ q, Success.room-is edition (lineThroughC ms) room sum counters room′ sum′ counters″ q)
+      (Success.room-lent edition (lineThroughC ms) room sum counters room′ sum′ counters″ q)
 
   -- the vectors
-  given : Plain.givenBy Z reply left ≡ givenBy S state′ vectors′
+  given : ByValue.givenBy Z reply left ≡ givenThroughC S state′ vectors′
   given =
-      ap (λ (x : State). Plain.givenBy x reply left) (sym (w .end))
+      ap (λ (x : State). ByValue.givenBy x reply left) (sym (w .end))
       ∙ sym (ap₂ (λ (x : State) (y : List ℕ). take (10 * (x .vectors - stateIn S .vectors)) y)
       (closed-state S vectors summary found v 0 state′ vectors′ summary′ counters′ l) (closed-vectors S vectors summary found v 0 state′ vectors′ summary′ counters′ l))
 
-  joined-room : room′ ≡ atStart (bytesAfter state ms ++ givenBy S state′ vectors′) room
+  joined-room : room′ ≡ atStart (bytesThroughC state ms ++ givenThroughC S state′ vectors′) room
   joined-room = joined .1 ∙ ap (λ (x : List ℕ). atStart x room) (ap₂ _++_ (sym (w .bytes)) given)
 
   -- the summary
   joined-summary : take (8 * receiveLength) sum′ ≡ take (8 * receiveLength) summary′
   joined-summary =
-      ap (take (8 * receiveLength)) (Success.summary-is edition (lineAfter ms) room sum counters room′ sum′ counters″ q)
+      ap (take (8 * receiveLength)) (Success.summary-is edition (lineThroughC ms) room sum counters room′ sum′ counters″ q)
       ∙ at-front one (drop (8 * receiveLength) sum)
       ∙ ap (λ (a : ReceiveAnswer). wordBytes 8 (receiveWords a)) (joined .0)
       ∙ sym (ap (take (8 * receiveLength)) (closed-summary S vectors summary found v 0 state′ vectors′ summary′ counters′ l) ∙ at-front said (drop (8 * receiveLength) summary))
@@ -318,10 +318,10 @@ module _ (edition : ℕ) (state counters : List ℕ) (ms : List Made) (w : Told 
   -- the counters
   joined-counters : counters″ ≡ counters′
   joined-counters =
-      Success.counters-are edition (lineAfter ms) room sum counters room′ sum′ counters″ q
+      Success.counters-are edition (lineThroughC ms) room sum counters room′ sum′ counters″ q
       ∙ ap (λ (x : Summary). with counters (addedIn x)) (same-summary one said (joined .0))
       ∙ ap (with counters) (sym (joined .2))
-      ∙ sym (adds-last counters found counters′ (Plain.addedAfter (w .calls)) (closeAdded (stateIn S)) (w .total)
+      ∙ sym (adds-last counters found counters′ (ByValue.addedAfterCalls (w .calls)) (closeAdded (stateIn S)) (w .total)
       (closed-counters S vectors summary found v 0 state′ vectors′ summary′ counters′ l))
 
 -- a state that was begun here is the fresh one of a known edition
@@ -330,17 +330,17 @@ begun-here edition slice state b =
     let k = begin-known edition slice state b in
     (k .0, fresh edition (k .0) ∙ ap begun (sym (ap stateIn (k .1) ∙ fresh-again edition slice (k .0))))
 
-pub whole : Whole
+pub whole : WholeThroughC
 whole edition slice state b counters ms f vectors summary state′ vectors′ summary′ counters′ l room sum room′ sum′ counters″ q =
     let begins = begun-here edition slice state b .1 in
     let w = told state counters ms f in
-    let v = success (stateAfter state ms) 0 (length vectors) (length summary) (length (countersAfter counters ms)) (l .0 ∙ close-result (stateAfter state ms) vectors summary (countersAfter counters ms) _ refl) in (
+    let v = success (stateThroughC state ms) 0 (length vectors) (length summary) (length (countersThroughC counters ms)) (l .0 ∙ close-result (stateThroughC state ms) vectors summary (countersThroughC counters ms) _ refl) in (
       joined-room edition state counters ms w begins vectors summary state′ vectors′ summary′ counters′ l v room sum room′ sum′ counters″ q,
       joined-summary edition state counters ms w begins vectors summary state′ vectors′ summary′ counters′ l v room sum room′ sum′ counters″ q,
       joined-counters edition state counters ms w begins vectors summary state′ vectors′ summary′ counters′ l v room sum room′ sum′ counters″ q,
     )
 
-pub never-bad : NeverBad
+pub never-bad : NeverBadThroughC
 never-bad edition slice state b counters ms f =
     let h = begun-here edition slice state b in
     let w = told state counters ms f in

@@ -21,15 +21,15 @@ use Rattle.receiving.specs.declared.Counts.{Counts}
 use Rattle.receiving.specs.declared.Handed.{Handed}
 use borrow.Author.Tests.{ltb-false}
 use Rattle.slices.proofs.Laws.{summary-long}
-use Rattle.bursts.specs.declared.State.{State}
+use Rattle.kept_state.specs.declared.State.{State}
 use Rattle.bursts.specs.declared.Added.{Added}
 use Rattle.bursts.specs.declared.Reply.{Reply}
-use Rattle.bursts.specs.Judging.{burstVerdict}
+use Rattle.judging.specs.Judging.{burstVerdict}
 use Rattle.bursts.specs.Burst.{Called, refuses, burstState, closeJudged, closeState, summaryIn, burstDone, closeDone, burstCall, closeCall, Replies}
 use Rattle.stored.specs.Stored.{stateIn, storedIn}
 use Rattle.holzmotte_bursts.specs.Boundary.{verdict, Left, leaves, spares, burstLeft, closeLeft, Leaves}
-use Rattle.holzmotte_bursts.specs.Coded.{Fits, LeftBy}
-use Rattle.holzmotte_bursts.proofs.Verdicts.{place-zero, short-state, short-slices, long-slices, goes-on}
+use Rattle.holzmotte_bursts.specs.Coded.{AnswerFits, LeftBy}
+use Rattle.holzmotte_bursts.proofs.Verdicts.{place-nought, short-state, short-slices, long-slices, goes-on}
 
 -- slices that are long enough
 neither : (a b : Bool) → a || b ≡ false → (a ≡ false) × (b ≡ false)
@@ -158,14 +158,14 @@ module _ (closing : Bool) (state line vectors summary counters : List ℕ) (s : 
     unfolding refuses
     refused-is k p v = w .1 ∙ ap (λ (x : Called). x .answer) (comes-for (refused k p) v)
 
-    fits-by : (v : Verdict) → own ≡ v → Fits (answerOf (r .answer)) (length summary) (length counters)
+    fits-by : (v : Verdict) → own ≡ v → AnswerFits (answerOf (r .answer)) (length summary) (length counters)
     fits-by accepted v =
-        subst (λ (a : ReceiveAnswer). Fits a (length summary) (length counters)) (sym (received-is v)) (both-long (length summary) (length counters) (sym eb ∙ enough v))
+        subst (λ (a : ReceiveAnswer). AnswerFits a (length summary) (length counters)) (sym (received-is v)) (both-long (length summary) (length counters) (sym eb ∙ enough v))
     fits-by (refused k p) v =
-        subst (λ (a : ReceiveAnswer). Fits a (length summary) (length counters)) (sym (refused-is k p v)) (omega (arith, place-zero s (bytes closing line) (length room) k p v))
+        subst (λ (a : ReceiveAnswer). AnswerFits a (length summary) (length counters)) (sym (refused-is k p v)) (omega (arith, place-nought s (bytes closing line) (length room) k p v))
 
     -- the answer fits
-    pub call-fits : Fits (answerOf (r .answer)) (length summary) (length counters)
+    pub call-fits : AnswerFits (answerOf (r .answer)) (length summary) (length counters)
     call-fits = fits-by own refl
 
     module _ (z : ℕ) (state′ summary′ counters′ : List ℕ)
@@ -202,8 +202,8 @@ module _ (next : State) (added : Added) (state summary counters : List ℕ) (z :
       → LeftBy (answerOf a) next added state summary counters z state′ summary′ counters′
   found-left a b e l = subst (λ (x : Received). LeftBy (answerOf x) next added state summary counters z state′ summary′ counters′) (sym e) l
 
-pub found-fits : (a b : Received) (summary counters : ℕ) → a ≡ b → Fits (answerOf a) summary counters → Fits (answerOf b) summary counters
-found-fits a b summary counters e p = subst (λ (x : Received). Fits (answerOf x) summary counters) e p
+pub found-fits : (a b : Received) (summary counters : ℕ) → a ≡ b → AnswerFits (answerOf a) summary counters → AnswerFits (answerOf b) summary counters
+found-fits a b summary counters e p = subst (λ (x : Received). AnswerFits (answerOf x) summary counters) e p
 
 -- the words of an answer, as they were put
 pub put-is : (s : Summary) (summary summary′ : List ℕ) → 96 ≤ length summary → summary′ ≡ wordBytes 8 (receiveWords (received s)) ++ drop 96 summary

@@ -2,17 +2,18 @@
 use Prim.Native.Nat.{ℕ, _+_, _*_, _≤_, _<_}
 use mathlib.Core.Path.{_≡_, refl, sym, ap, ap₂, _∙_}
 use mathlib.Core.Bool.{Bool, true, false}
-use mathlib.Core.List.{List, [], _∷_}
+use mathlib.Core.List.{List, [], _∷_, _++_}
 use native.Mathlib.Omega.{arith}
-use lib.ListN.{length}
+use lib.ListN.{length, take, drop}
 use lib.Dec.{ltb, lit<}
 use borrow.Author.Tests.{lt-ltb, le-ltb, ltb-false}
 use Rattle.refusals.specs.First.{Check, check, Verdict, accepted, refused, first, byVerdict}
 use Rattle.refusals.proofs.Laws.{passed}
-use Rattle.slices.specs.Slices.{resultOf, tooShort, shortSlice, after}
-use Rattle.slices.proofs.Laws.{first-after, skipped, Numbered, refusal-above, result-zero}
-use Rattle.bursts.specs.declared.State.{State}
-use Rattle.bursts.specs.Judging.{badState, roomFor, burstChecks, burstVerdict}
+use Rattle.slices.specs.Slices.{resultOf, tooShort, shortSlice, oneMoreAfter}
+use Rattle.slices.proofs.Laws.{first-after, skipped, place-zero, Numbered, refusal-above, result-zero}
+use Rattle.slices.proofs.Applied.{cut-off, never}
+use Rattle.kept_state.specs.declared.State.{State}
+use Rattle.judging.specs.Judging.{roomFor, burstChecks, burstVerdict}
 use Rattle.bursts.specs.Burst.{stateFresh, begun, beginAnswer}
 use Rattle.bursts.specs.Burst as Burst
 use Rattle.stored.specs.Stored.{stateIn, storedIn}
@@ -68,46 +69,17 @@ module _ (edition : ℕ) (state : List ℕ) where
 -- ---- a burst and the closing call
 
 -- no place but 0
-no-place : (a b c d e : Bool) (n p : ℕ) → first (check 13 a ∷ check 9 b ∷ check 10 c ∷ check 1 d ∷ check 4 e ∷ []) ≡ refused n p → p ≡ 0
-unfolding first
-no-place true b c d e n p q = cc
-no-place false true c d e n p q = cc
-no-place false false true d e n p q = cc
-no-place false false false true e n p q = cc
-no-place false false false false true n p q = cc
-no-place false false false false false n p q = cc
-
-pub place-zero : (s : State) (line room n p : ℕ) → burstVerdict s line room ≡ refused n p → p ≡ 0
+pub place-nought : (s : State) (line room n p : ℕ) → burstVerdict s line room ≡ refused n p → p ≡ 0
 unfolding burstVerdict burstChecks
-place-zero s line room n p q = no-place (ltb 1 (s .edition)) (s .closed) (badState s) (ltb 825000 (s .bytes + line)) (ltb room (roomFor s line)) n p q
-
--- a slice too short comes before the room
-short-first : (a b c d e : Bool)
-    → first (check 13 a ∷ check 9 b ∷ check 10 c ∷ check 1 d ∷ check 4 true ∷ check 4 e ∷ []) ≡ first (check 13 a ∷ check 9 b ∷ check 10 c ∷ check 1 d ∷ check 4 true ∷ [])
-unfolding first
-short-first true b c d e = refl
-short-first false true c d e = refl
-short-first false false true d e = refl
-short-first false false false true e = refl
-short-first false false false false e = refl
+place-nought s line room n p q = place-zero _ (refl, (refl, (refl, (refl, (refl, tt))))) n p q
 
 -- no burst is accepted into no room
-no-room : (a b c d : Bool) → first (check 13 a ∷ check 9 b ∷ check 10 c ∷ check 1 d ∷ check 4 true ∷ []) ≡ accepted → ⊥
-unfolding first
-no-room true b c d q = let z : _≡_ {A = ℕ} 0 1 = cc in omega arith
-no-room false true c d q = let z : _≡_ {A = ℕ} 0 1 = cc in omega arith
-no-room false false true d q = let z : _≡_ {A = ℕ} 0 1 = cc in omega arith
-no-room false false false true q = let z : _≡_ {A = ℕ} 0 1 = cc in omega arith
-no-room false false false false q = let z : _≡_ {A = ℕ} 0 1 = cc in omega arith
-
 room-asked : (s : State) (line : ℕ) → ltb 0 (roomFor s line) ≡ true
 room-asked s line = lt-ltb 0 (roomFor s line) (omega arith)
 
 never-there : (s : State) (line : ℕ) → burstVerdict s line 0 ≡ accepted → ⊥
 unfolding burstVerdict burstChecks
-never-there s line q =
-    no-room (ltb 1 (s .edition)) (s .closed) (badState s) (ltb 825000 (s .bytes + line))
-    (sym (ap (λ (b : Bool). first (check 13 (ltb 1 (s .edition)) ∷ check 9 (s .closed) ∷ check 10 (badState s) ∷ check 1 (ltb 825000 (s .bytes + line)) ∷ check 4 b ∷ [])) (room-asked s line)) ∙ q)
+never-there s line q = never (take 4 (burstChecks s line 0)) (check 4 (ltb 0 (roomFor s line))) [] (room-asked s line) q
 
 module _ (state : List ℕ) (line room summary counters : ℕ) where
   abbrev own : List Check
@@ -119,9 +91,9 @@ module _ (state : List ℕ) (line room summary counters : ℕ) where
   short-state l = rw (lt-ltb (length state) 232 l)
 
   module _ (long : 232 ≤ length state) where
-    past : verdict state line room summary counters ≡ first (after 4 (check 4 (shortSlice summary counters)) own)
+    past : verdict state line room summary counters ≡ first (oneMoreAfter 4 (check 4 (shortSlice summary counters)) own)
     unfolding verdict
-    past = skipped (check 4 (tooShort 8 29 (length state))) (after 4 (check 4 (shortSlice summary counters)) own) (le-ltb (length state) 232 long)
+    past = skipped (check 4 (tooShort 8 29 (length state))) (oneMoreAfter 4 (check 4 (shortSlice summary counters)) own) (le-ltb (length state) 232 long)
 
     -- the summary or the counters are
     pub short-slices : shortSlice summary counters ≡ true → verdict state line room summary counters ≡ burstVerdict (stateIn state) line 0
@@ -129,9 +101,8 @@ module _ (state : List ℕ) (line room summary counters : ℕ) where
     short-slices e =
         let s = stateIn state in
         past
-        ∙ ap (λ (b : Bool). first (check 13 (ltb 1 (s .edition)) ∷ check 9 (s .closed) ∷ check 10 (badState s) ∷ check 1 (ltb 825000 (s .bytes + line)) ∷ check 4 b ∷ check 4 (ltb room (roomFor s line)) ∷ [])) e
-        ∙ short-first (ltb 1 (s .edition)) (s .closed) (badState s) (ltb 825000 (s .bytes + line)) (ltb room (roomFor s line))
-        ∙ ap (λ (b : Bool). first (check 13 (ltb 1 (s .edition)) ∷ check 9 (s .closed) ∷ check 10 (badState s) ∷ check 1 (ltb 825000 (s .bytes + line)) ∷ check 4 b ∷ [])) (sym (room-asked s line))
+        ∙ cut-off (take 4 own) (check 4 (shortSlice summary counters)) (drop 4 own) e
+        ∙ ap (λ (b : Bool). first (take 4 own ++ check 4 b ∷ [])) (e ∙ sym (room-asked s line))
 
     -- none is
     pub long-slices : shortSlice summary counters ≡ false → verdict state line room summary counters ≡ burstVerdict (stateIn state) line room
@@ -151,7 +122,7 @@ module _ (state : List ℕ) (line room summary counters : ℕ) where
       by false h = (h, sym (long-slices (long-enough e) h) ∙ e)
 
   -- no check has number 0
-  numbered : Numbered (check 4 (tooShort 8 29 (length state)) ∷ after 4 (check 4 (shortSlice summary counters)) own)
+  numbered : Numbered (check 4 (tooShort 8 29 (length state)) ∷ oneMoreAfter 4 (check 4 (shortSlice summary counters)) own)
   unfolding burstChecks
   numbered = (lit< tt, (lit< tt, (lit< tt, (lit< tt, (lit< tt, (lit< tt, (lit< tt, tt)))))))
 

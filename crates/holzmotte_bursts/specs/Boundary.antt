@@ -8,8 +8,8 @@ use lib.ListN.{length, replicate}
 use Rattle.refusals.specs.First.{check, Verdict, first, byVerdict}
 use Rattle.block.specs.Block.{editionCheck}
 use Rattle.counters.specs.Counters.{updated}
-use Rattle.slices.specs.Slices.{resultOf, after, tooShort, summaryWith, countersIn, countersWith, receiveLength, shortSlice, receiveWords}
-use Rattle.bursts.specs.Judging.{burstChecks}
+use Rattle.slices.specs.Slices.{resultOf, oneMoreAfter, tooShort, summaryWith, countersIn, countersWith, receiveLength, shortSlice, receiveWords}
+use Rattle.judging.specs.Judging.{burstChecks}
 use Rattle.bursts.specs.Burst.{stateFresh, Called, burstCall, closeCall}
 use Rattle.stored.specs.Stored.{stateLength, stateIn, storedIn}
 
@@ -28,7 +28,7 @@ BeginsThroughC edition state r state′ =
 
 unfoldable pub verdict : (state : List ℕ) → (line room summary counters : ℕ) → Verdict
 verdict state line room summary counters =
-    first (check 4 (tooShort 8 stateLength (length state)) ∷ after 4 (check 4 (shortSlice summary counters)) (burstChecks (stateIn state) line room))
+    first (check 4 (tooShort 8 stateLength (length state)) ∷ oneMoreAfter 4 (check 4 (shortSlice summary counters)) (burstChecks (stateIn state) line room))
 
 -- the result of a call, and what it leaves in the four slices
 pub record Left : Type 0 where

@@ -6,14 +6,14 @@ use lib.ListN.{replicate}
 use Rattle.receiving.specs.Answer.{ReceiveAnswer, received, refused}
 use Rattle.counters.specs.Counters.{updated}
 use Rattle.slices.specs.Slices.{summaryWith, countersIn, countersWith, receiveLength, receiveWords}
-use Rattle.bursts.specs.declared.State.{State}
+use Rattle.kept_state.specs.declared.State.{State}
 use Rattle.bursts.specs.declared.Added.{Added}
 use Rattle.stored.specs.Stored.{storedIn}
 
 -- an answer fits: a summary and what was counted the lengths of their slices, a refusal's place the result
-abbrev pub Fits : ReceiveAnswer → (summary counters : ℕ) → Type 0
-Fits (received s) summary counters = (96 ≤ summary) × (32 ≤ counters)
-Fits (refused number place) summary counters = place ≤ 1000000
+abbrev pub AnswerFits : ReceiveAnswer → (summary counters : ℕ) → Type 0
+AnswerFits (received s) summary counters = (96 ≤ summary) × (32 ≤ counters)
+AnswerFits (refused number place) summary counters = place ≤ 1000000
 
 -- by the answer
 abbrev pub LeftBy : ReceiveAnswer → State → Added → (state summary counters : List ℕ) → (r : ℕ) (state′ summary′ counters′ : List ℕ) → Type 0

@@ -1,3 +1,4 @@
 pub mod Boundary
 pub mod Coded
 pub mod Joined
+pub mod Demand1

@@ -19,7 +19,7 @@ ghost use Prim.Native.Nat.{_≤_};
 ghost use lib.ListN.{length};
 ghost use Rattle.receiving.specs.Answer.{answerOf};
 ghost use Rattle.holzmotte_bursts.specs.Boundary.{BeginsThroughC, burstLeft, closeLeft, Leaves};
-ghost use Rattle.holzmotte_bursts.specs.Coded.{Fits, LeftBy};
+ghost use Rattle.holzmotte_bursts.specs.Coded.{AnswerFits, LeftBy};
 
 // A fresh state of an edition (0 old, 1 new) in lent bytes.
 #[no_mangle]
@@ -40,7 +40,7 @@ pub extern "C" fn holzmotte_begin(edition: u64, state: &mut [u8]) -> u64
 
 // What a reply leaves in the slices, which are long enough where it is no refusal, and the result.
 fn answered(state: &mut [u8], summary: &mut [u8], counters: &mut [u8], r: Reply) -> u64
-    requires { ⌜ (232 ≤ length (now state)) × Fits (answerOf (r .answer)) (length (now summary)) (length (now counters)) ⌝ }
+    requires { ⌜ (232 ≤ length (now state)) × AnswerFits (answerOf (r .answer)) (length (now summary)) (length (now counters)) ⌝ }
     ensures { λ z. ⌜ LeftBy (answerOf (r .answer)) (r .state) (r .added) (now (state .entry)) (now (summary .entry)) (now (counters .entry)) z (now (state .exit)) (now (summary .exit)) (now (counters .exit)) ⌝ }
 {
     let next = r.state;

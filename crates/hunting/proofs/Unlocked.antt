@@ -22,16 +22,16 @@ use Rattle.scrambler.specs.Scrambler.{descrambled, lineAfter}
 use Rattle.carrying.specs.Carrying.{Takes}
 use Rattle.carrying.specs.declared.Taken.{Taken}
 use Rattle.carrying.proofs.Laws.{bits-none, takes-skip}
-use Rattle.tables.specs.Tables.{types}
+use Rattle.block.specs.Types.{types}
 use Rattle.decoding.specs.Vector.{vectorBytes}
 use Rattle.decoding.specs.declared.Vector.{Vector}
 use Rattle.decoding.proofs.Rows.{data-answer, no-type, no-header}
 use Rattle.decoding.proofs.Looking.{no-row}
-use Rattle.diagrams.specs.Lock.{lockFresh, lockOf, slipsOf, countedOf, invalidOf}
-use Rattle.diagrams.specs.Rate.{rateFresh, rateOf}
+use Rattle.lock.specs.Lock.{lockFresh, lockOf, slipsOf, countedOf, invalidOf}
+use Rattle.lock.specs.Rate.{rateFresh, rateOf}
 use Rattle.diagrams.specs.Diagram.{diagramOf}
-use Rattle.diagrams.specs.declared.Lock.{Lock}
-use Rattle.diagrams.specs.declared.Rate.{Rate}
+use Rattle.lock.specs.declared.Lock.{Lock}
+use Rattle.lock.specs.declared.Rate.{Rate}
 use Rattle.diagrams.specs.declared.State.{State}
 use Rattle.diagrams.specs.declared.State.the-variants.{Init}
 use Rattle.blocks.specs.Blocks.{headerAt, payloadAt}
@@ -39,19 +39,19 @@ use Rattle.receiving.specs.Machine.{Run, Tested, run, linkOf, testedOf, validOf
 use Rattle.receiving.specs.Receive.{letsEnd, stateOf, answerIn, countsOf, handedOf}
 use Rattle.receiving.specs.Parts.{plus, plusHanded, settle, bytesOf}
 use Rattle.receiving.specs.Counted.{counted, handOut}
-use Rattle.receiving.specs.Loop.{testedIn, heldIn, feedIn, Outcome, outcomeOf, outcome, Under, Turns, heldState, heldBytes, heldHanded}
-use Rattle.hunting.specs.Unlocked.{Hunts, foundOf, missOf, controlOf, untypedOf, Tests}
+use Rattle.receiving.specs.Loop.{testedIn, heldIn, feedIn, Upshot, upshotOf, upshot, Under, Turns, heldState, heldBytes, heldHanded}
+use Rattle.hunting.specs.Unlocked.{Hunts, afterSearch, missOf, controlOf, untypedOf, Tests}
 use Rattle.receiving.specs.declared.Link.{Link}
 use Rattle.receiving.specs.declared.Held.{Held}
 use Rattle.receiving.specs.declared.Counts.{Counts}
 use Rattle.receiving.specs.declared.Handed.{Handed}
 use Rattle.receiving.specs.declared.Progress.{Progress}
 use Rattle.hunting.specs.declared.Search.{Search}
-use Rattle.receiving.proofs.Runs.{after}
+use Rattle.receiving.proofs.Runs.{runBehind}
 use Rattle.receiving.proofs.Counted.{free, one-header, one-type, counted-is, oneMore, out-init}
 use Rattle.receiving.proofs.Settle.{held-put, held-ten, settle-bytes, settle-handed, settle-state, settle-held}
-use Rattle.receiving.proofs.Turning.{feedOf, fill-run, turn-wait, moved, turn-block, held-fits, outcome-same}
-use Rattle.receiving.proofs.Stretching.{whole, whole-taken, carried-none, turns-more}
+use Rattle.receiving.proofs.Turning.{feedOf, fill-run, turn-wait, moved, turn-block, held-fits, upshot-same}
+use Rattle.receiving.proofs.Stretching.{wholeBlock, whole-taken, carried-none, turns-more}
 
 -- ---- a block held that was not tested in lock is answered as Local Fault, whichever it is
 
@@ -90,7 +90,7 @@ module _ (w : List ℕ) (s : State) (c : Counts) (n : Handed) (t : Tested) (r : 
   off-handed e = ap (λ (z : State). handOut n (record { state = z; block = testedIn h })) (off-state e) ∙ sym (out-init n (testedIn h))
 
   -- what comes of it, where a block follows
-  abbrev from-init : Outcome
+  abbrev from-init : Upshot
   from-init =
       let ts = t ∷ r .tested in
       record {
@@ -102,11 +102,11 @@ module _ (w : List ℕ) (s : State) (c : Counts) (n : Handed) (t : Tested) (r : 
         end = r .end;
       }
 
-  off-outcome : outcomeOf w s (testedIn h ∷ []) c n (after (t ∷ []) r) ≡ from-init
-  off-outcome =
+  off-upshot : upshotOf w s (testedIn h ∷ []) c n (runBehind (t ∷ []) r) ≡ from-init
+  off-upshot =
       let ts = r .tested in
       let e = letsEnd t in
-      outcome-same _ _ _ _ _ _ _ _ _ _ (r .end)
+      upshot-same _ _ _ _ _ _ _ _ _ _ (r .end)
       (ap (λ (l : List ℕ). w ++ l)
       (settle-bytes s h t ts true ∙ ap₂ (λ (l : List ℕ) (z : State). l ++ bytesOf (settle z (t ∷ ts) .judged)) (off-bytes e) (off-state e)))
       (settle-state s h t ts true ∙ ap (λ (z : State). settle z (t ∷ ts) .state) (off-state e))
@@ -128,7 +128,7 @@ module _ (line : List ℕ) (p : Progress) (skip : p .receiver .skip ≡ false) (
   abbrev next-left : Run
   next-left = run (feedOf [] (slipsOf (p .receiver .link .lock) (validOf (headerOf bits))) (linkOf (p .receiver .link) (headerOf bits) (payloadOf bits))) (drop (p .pos + 66) B)
 
-  run-one : run (feedIn (p .receiver)) (drop (p .pos) B) ≡ after (next-tested ∷ []) next-left
+  run-one : run (feedIn (p .receiver)) (drop (p .pos) B) ≡ runBehind (next-tested ∷ []) next-left
   unfolding feedIn feedOf
   run-one =
       let r = p .receiver in
@@ -139,18 +139,18 @@ module _ (line : List ℕ) (p : Progress) (skip : p .receiver .skip ≡ false) (
 
 -- so another may stand for it, where a block follows
 module _ (line room : List ℕ) (p : Progress) (skip : p .receiver .skip ≡ false) (none : p .receiver .carried .count ≡ 0) (have : p .receiver .have ≡ true) (here : p .pos + 66 ≤ 8 * length line) where
-  abbrev with-held : Held → Outcome
+  abbrev with-held : Held → Upshot
   with-held k =
-      outcomeOf (take (p .at) room) (p .receiver .state) (cond (p .receiver .have) (testedIn k ∷ []) []) (p .counts) (p .handed)
+      upshotOf (take (p .at) room) (p .receiver .state) (cond (p .receiver .have) (testedIn k ∷ []) []) (p .counts) (p .handed)
       (run (feedIn (p .receiver)) (drop (p .pos) (lineBits line)))
 
   with-off : (k : Held) (off : k .on ≡ false) → with-held k ≡ from-init (take (p .at) room) (p .receiver .state) (p .counts) (p .handed) (next-tested line p skip none here) (next-left line p skip none here) k off
   with-off k off =
-      ap₂ (λ (b : Bool) (z : Run). outcomeOf (take (p .at) room) (p .receiver .state) (cond b (testedIn k ∷ []) []) (p .counts) (p .handed) z) have (run-one line p skip none here)
-      ∙ off-outcome (take (p .at) room) (p .receiver .state) (p .counts) (p .handed) (next-tested line p skip none here) (next-left line p skip none here) k off
+      ap₂ (λ (b : Bool) (z : Run). upshotOf (take (p .at) room) (p .receiver .state) (cond b (testedIn k ∷ []) []) (p .counts) (p .handed) z) have (run-one line p skip none here)
+      ∙ off-upshot (take (p .at) room) (p .receiver .state) (p .counts) (p .handed) (next-tested line p skip none here) (next-left line p skip none here) k off
 
-  off-same : (h : Held) → p .receiver .held .on ≡ false → h .on ≡ false → outcome line room (holding p h) ≡ outcome line room p
-  unfolding outcome heldIn feedIn
+  off-same : (h : Held) → p .receiver .held .on ≡ false → h .on ≡ false → upshot line room (holding p h) ≡ upshot line room p
+  unfolding upshot heldIn feedIn
   off-same h off off′ = with-off h off′ ∙ sym (with-off (p .receiver .held) off)
 
 -- ---- one block
@@ -311,7 +311,7 @@ module _ (line room : List ℕ) (q : Progress) (u : Under line room q) (hq : Hun
   unfolding testedIn
   counts-are = counted-is (q .counts) (testedIn holds) (missOf header) counts miss-one (ts .counts (oneMore (q .counts) (missOf header)))
 
-  taken-is : Takes (lineBits line) (q .pos) (q .receiver .skip) (q .receiver .carried) (whole q header payload)
+  taken-is : Takes (lineBits line) (q .pos) (q .receiver .skip) (q .receiver .carried) (wholeBlock q header payload)
   taken-is = whole-taken line q header payload (u .sound) (hq .skip) (hq .none) (omega (arith, ahead)) eh ep
 
   -- the vector of the block held fits the room
@@ -320,12 +320,12 @@ module _ (line room : List ℕ) (q : Progress) (u : Under line room q) (hq : Hun
       let have : length (heldBytes (q .receiver .have) (q .receiver .state) (q .receiver .held) (letsEnd (testedIn holds))) ≡ 10 =
       ap (λ (b : Bool). length (heldBytes b (q .receiver .state) (q .receiver .held) (letsEnd (testedIn holds)))) (hq .have)
       ∙ held-ten (q .receiver .state) (q .receiver .held) (letsEnd (testedIn holds)) in
-      omega (arith, have, held-fits line room q u (whole q header payload) taken-is refl linked holds link-is held-is)
+      omega (arith, have, held-fits line room q u (wholeBlock q header payload) taken-is refl linked holds link-is held-is)
 
   module _ (v : Vector) (ev : vectorBytes v ≡ localFaultVector) (room′ : List ℕ) (er : room′ ≡ take (q .at) room ++ (vectorBytes v ++ drop (q .at + 10) room)) where
     -- it is tested
     abbrev first : Progress
-    first = moved q (whole q header payload) linked holds Init (q .at + 10) counts (q .handed)
+    first = moved q (wholeBlock q header payload) linked holds Init (q .at + 10) counts (q .handed)
 
     turn-first : Turns line room room′ q first
     unfolding stateOf answerIn testedIn
@@ -333,7 +333,7 @@ module _ (line room : List ℕ) (q : Progress) (u : Under line room q) (hq : Hun
         let r = q .receiver in
         let put = held-put (r .have) (r .state) (r .held) (letsEnd (testedIn holds)) room room′ (q .at) (q .handed) (q .handed) Init v (hq .have)
         (sym (ap (λ (b : Bool). cond b (diagramOf (r .state) (kindIn (r .held .class)) (letsEnd (testedIn holds))) Init) (hq .off))) ev er (out-init (q .handed) (testedIn (r .held))) in
-        turn-block line room q u (whole q header payload) taken-is refl linked holds link-is held-is Init (q .at + 10) counts room′ (put .0) (put .1) (put .2) (q .handed) (put .3) counts-are
+        turn-block line room q u (wholeBlock q header payload) taken-is refl linked holds link-is held-is Init (q .at + 10) counts room′ (put .0) (put .1) (put .2) (q .handed) (put .3) counts-are
 
     -- a bit is skipped, if it slipped
     abbrev after-slip : Progress
@@ -384,7 +384,7 @@ module _ (line room : List ℕ) (q : Progress) (u : Under line room q) (hq : Hun
                 sound = t .under .sound;
                 pos = t .under .pos;
                 at = t .under .at;
-                fits = subst (λ (o : Outcome). length (o .bytes) ≤ length room′) (sym same) (t .under .fits);
+                fits = subst (λ (o : Upshot). length (o .bytes) ≤ length room′) (sym same) (t .under .fits);
                 counts = t .under .counts;
                 handed = t .under .handed;
               };
@@ -486,15 +486,15 @@ tests-quick ed header x small some k v (ek, ev, g) =
         by-lt h 1 (λ a. absurd (n (let z : h ≡ 0 = omega arith in ap (λ (n : ℕ). controlOf n) z)))
         (λ a. by-lt h 2 (λ b. omega arith) (λ b. by-lt h 3 (λ c. absurd (n (let z : h ≡ 2 = omega arith in ap (λ (n : ℕ). controlOf n) z))) (λ c. absurd (n (let z : h ≡ 3 = omega arith in ap (λ (n : ℕ). controlOf n) z)))))
 
-pub hunt-turn : (line room : List ℕ) (p : Progress) (s : Search) → Hunts p → (u : Under line room (foundOf p s)) (header payload : ℕ)
+pub hunt-turn : (line room : List ℕ) (p : Progress) (s : Search) → Hunts p → (u : Under line room (afterSearch p s)) (header payload : ℕ)
     → header ≡ headerAt line (s .pos) → payload ≡ payloadAt line (s .pos) → s .pos / 8 + 18 ≤ length line → s .tested < 63
     → ((ed : Edition) → Tests ed (headerAt line (s .pos)) (descrambled (payloadAt line (s .pos)) (s .history)))
     → (v : Vector) → vectorBytes v ≡ localFaultVector → (room′ : List ℕ) → room′ ≡ take (s .at) room ++ (vectorBytes v ++ drop (s .at + 10) room)
     → (m k h : ℕ) → m ≡ missOf header → k ≡ untypedOf header (getD types (descrambled payload (s .history) % 256) 0) → h ≡ lineAfter payload (s .history)
-    → Turns line room room′ (foundOf p s)
-    (foundOf p (record { pos = s .pos + 66 + m; at = s .at + 10; history = h; tested = (s .tested + 1) * (1 - m); misses = s .misses + m; types = s .types + k; count = s .count + 1 }))
+    → Turns line room room′ (afterSearch p s)
+    (afterSearch p (record { pos = s .pos + 66 + m; at = s .at + 10; history = h; tested = (s .tested + 1) * (1 - m); misses = s .misses + m; types = s .types + k; count = s .count + 1 }))
 hunt-turn line room p s hp u header payload eh ep ahead few told v ev room′ er m k h em ek eq =
-    subst (Turns line room room′ (foundOf p s))
+    subst (Turns line room room′ (afterSearch p s))
     (λ i. record {
       receiver =
           record {
@@ -524,7 +524,7 @@ hunt-turn line room p s hp u header payload eh ep ahead few told v ev room′ er
           };
       handed = p .handed;
     })
-    (hunt-one line room (foundOf p s) u
+    (hunt-one line room (afterSearch p s) u
     (record {
       skip = hp .skip;
       none = hp .none;
@@ -545,11 +545,11 @@ hunt-turn line room p s hp u header payload eh ep ahead few told v ev room′ er
     small = subst (λ (n : ℕ). n < 4) (sym eh) (number-lt 2 (λ i. lineBit line (s .pos + i)) (λ i q. lineBit-lt line (s .pos + i)))
 
 -- the vector of the block held fits the room
-pub hunt-room : (line room : List ℕ) (p : Progress) (s : Search) → Hunts p → (u : Under line room (foundOf p s)) → s .pos / 8 + 18 ≤ length line → s .tested < 63
+pub hunt-room : (line room : List ℕ) (p : Progress) (s : Search) → Hunts p → (u : Under line room (afterSearch p s)) → s .pos / 8 + 18 ≤ length line → s .tested < 63
     → ((ed : Edition) → Tests ed (headerAt line (s .pos)) (descrambled (payloadAt line (s .pos)) (s .history))) → s .at + 10 ≤ length room
 hunt-room line room p s hp u ahead few told =
     let small = number-lt 2 (λ i. lineBit line (s .pos + i)) (λ i q. lineBit-lt line (s .pos + i)) in
-    hunt-fits line room (foundOf p s) u
+    hunt-fits line room (afterSearch p s) u
     (record {
       skip = hp .skip;
       none = hp .none;

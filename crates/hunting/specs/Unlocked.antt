@@ -7,7 +7,7 @@ use lib.ListN.{getD}
 use Rattle.block.specs.Block.{decoded, classOf}
 use Rattle.block.specs.declared.Edition.{Edition}
 use Rattle.block.specs.declared.Class.{Class}
-use Rattle.tables.specs.Tables.{types}
+use Rattle.block.specs.Types.{types}
 use Rattle.decoding.specs.Vector.{vectorBytes}
 use Rattle.decoding.specs.declared.Vector.{Vector}
 use Rattle.diagrams.specs.declared.State.the-variants.{Init}
@@ -30,8 +30,8 @@ pub record Hunts (p : Progress) : Type 0 where
   pub low : p .receiver .link .rate .high ≡ false
 
 -- the receiver that a search has come to. It holds another block than the one tested last, but that is answered as Local Fault all the same.
-abbrev pub foundOf : Progress → Search → Progress
-foundOf p s =
+abbrev pub afterSearch : Progress → Search → Progress
+afterSearch p s =
     record {
       receiver =
           record {

@@ -2,16 +2,16 @@
 // its type is none, or that it is decoded at once and so not bad. A slip takes no branch of its own. What is left stands with `turn`.
 use blocks::one_at;
 use decoding::Vector;
+use decoding::put_vector;
 use decoding::quick;
-use diagrams::Lock;
 use diagrams::State;
+use lock::Lock;
 use receiving::Counts;
 use receiving::Link;
 use receiving::Progress;
 use receiving::Receiver;
 use scrambler::descramble;
 use tables::type_row;
-use vectors::put_vector;
 ghost use mathlib.Core.Path.{_≡_};
 ghost use mathlib.Core.Bool.{true, false};
 ghost use Prim.Native.Nat.{_+_, _*_, _/_, _%_, _^_, _≤_, _<_};
@@ -23,7 +23,7 @@ ghost use Rattle.decoding.specs.Vector.{vectorBytes};
 ghost use Rattle.diagrams.specs.declared.State.the-variants.{Init};
 ghost use Rattle.scrambler.specs.Scrambler.{descrambled};
 ghost use Rattle.receiving.specs.Loop.{Under, Turns, Stretches};
-ghost use Rattle.hunting.specs.Unlocked.{Hunts, foundOf, missOf, controlOf, untypedOf, Tests};
+ghost use Rattle.hunting.specs.Unlocked.{Hunts, afterSearch, missOf, controlOf, untypedOf, Tests};
 
 // How far a search for lock has come: the next line bit, the next byte of the room, the last 58 payload bits, and the headers tested since
 // the last slip; and of all blocks tested how many slipped, how many were control blocks of no type, and how many there were.
@@ -127,7 +127,7 @@ fn local_fault() -> Vector
 // The receiver that a search has come to.
 fn found(p: Progress, s: Search) -> Progress
     requires { ⌜ (p .counts .tested + s .count ≤ 6600000) × (p .counts .slips + s .misses ≤ 6600000) × (p .counts .headers + s .misses ≤ 6600000) × (p .counts .types + s .types ≤ 6600000) ⌝ }
-    ensures { λ r. ⌜ r ≡ foundOf p s ⌝ }
+    ensures { λ r. ⌜ r ≡ afterSearch p s ⌝ }
 {
     let r = p.receiver;
     let skip = r.skip;
@@ -203,8 +203,8 @@ fn hunts_on(line: &[u8], s: Search) -> bool
 
 // One block tested: the block held is answered as Local Fault.
 fn hunt_step(line: &[u8], room: &mut [u8], p: Progress, s: Search) -> Search
-    requires { ⌜ (length (now line) ≤ 825000) × Hunts p × Under (now line) (now room) (foundOf p s) × (s .pos / 8 + 18 ≤ length (now line)) × (s .tested < 63) × ((ed : Edition) → Tests ed (headerAt (now line) (s .pos)) (descrambled (payloadAt (now line) (s .pos)) (s .history))) ⌝ }
-    ensures { λ r. ⌜ Turns (now (line .entry)) (now (room .entry)) (now (room .exit)) (foundOf p s) (foundOf p r) × (r .pos < 8 * length (now (line .entry))) ⌝ }
+    requires { ⌜ (length (now line) ≤ 825000) × Hunts p × Under (now line) (now room) (afterSearch p s) × (s .pos / 8 + 18 ≤ length (now line)) × (s .tested < 63) × ((ed : Edition) → Tests ed (headerAt (now line) (s .pos)) (descrambled (payloadAt (now line) (s .pos)) (s .history))) ⌝ }
+    ensures { λ r. ⌜ Turns (now (line .entry)) (now (room .entry)) (now (room .exit)) (afterSearch p s) (afterSearch p r) × (r .pos < 8 * length (now (line .entry))) ⌝ }
 {
     let end = s.at + 10;
     let b = one_at(line, s.pos);
@@ -225,8 +225,8 @@ fn hunt_step(line: &[u8], room: &mut [u8], p: Progress, s: Search) -> Search
 
 // As many blocks as come, from where the receiver stands.
 fn hunt_blocks(line: &[u8], room: &mut [u8], p: Progress, start: Search) -> Search
-    requires { ⌜ (length (now line) ≤ 825000) × Hunts p × Under (now line) (now room) (foundOf p start) × (start .pos < 8 * length (now line)) ⌝ }
-    ensures { λ r. ⌜ Stretches (now (line .entry)) (now (room .entry)) (now (room .exit)) (foundOf p start) (foundOf p r) ⌝ }
+    requires { ⌜ (length (now line) ≤ 825000) × Hunts p × Under (now line) (now room) (afterSearch p start) × (start .pos < 8 * length (now line)) ⌝ }
+    ensures { λ r. ⌜ Stretches (now (line .entry)) (now (room .entry)) (now (room .exit)) (afterSearch p start) (afterSearch p r) ⌝ }
 {
     let mut s = start;
     while hunts_on(line, s) {
@@ -237,7 +237,7 @@ fn hunt_blocks(line: &[u8], room: &mut [u8], p: Progress, start: Search) -> Sear
 
 // A search that is at its first block.
 fn searching(p: Progress) -> Search
-    ensures { λ r. ⌜ foundOf p r ≡ p ⌝ }
+    ensures { λ r. ⌜ afterSearch p r ≡ p ⌝ }
 {
     let r = p.receiver;
     let link = r.link;

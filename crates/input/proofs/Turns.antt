@@ -7,11 +7,11 @@ use lib.ListN.{length, take, length-append}
 use lib.Seq.{length-take-le}
 use types.Run.{OneOf, miss}
 use denote.Enum.Declared.{tagOf}
-use Rattle.place.specs.Placed.{placed}
-use Rattle.place.proofs.Laws.{placed-none, placed-length, placed-over, placed-take}
+use Rattle.putting.specs.Overlaid.{overlaid}
+use Rattle.putting.proofs.Laws.{overlaid-none, overlaid-length, overlaid-over, overlaid-take}
 use Rattle.records.specs.Record.{bodyLimit}
-use Rattle.gather.specs.Gather.{Gathered, more, done, stop, failed, Read, nextRead, readOf, bytesIn, soFar, turnIn, turnOf, Shows}
-use Rattle.gather.specs.File.{after, Going, on, InTurn}
+use Rattle.gather.specs.Gather.{Gathered, more, done, stop, failed, RecordRead, nextRead, readOf, bytesIn, soFar, turnIn, turnOf, Shows}
+use Rattle.gather.specs.File.{gatheredAfter, Going, on, InTurn}
 use Rattle.gather.specs.declared.Got.{Got}
 use Rattle.gather.specs.declared.Step.{Step}
 use Rattle.gather.specs.declared.Step.the-variants as Case
@@ -23,18 +23,18 @@ use Rattle.input.proofs.Windows.{is-window}
 
 -- Reads were made, there was no end, no refusal and no failed read, and the store holds from its start on what they gave.
 pub record SoFar (kind : ℕ) (entry store : List ℕ) (used turns : ℕ) : Type 0 where
-  pub reads : List Read
+  pub reads : List RecordRead
   pub in-turn : InTurn bodyLimit kind (length entry) reads (more [])
-  pub held : after bodyLimit kind (length entry) reads (more []) ≡ more (take used store)
-  pub kept : store ≡ placed 0 (take used store) entry
+  pub held : gatheredAfter bodyLimit kind (length entry) reads (more []) ≡ more (take used store)
+  pub kept : store ≡ overlaid 0 (take used store) entry
   pub same : length store ≡ length entry
   pub fits : used ≤ length store
   pub count : length reads + turns ≡ 2 ^ 64 - 1
 
 -- Nothing is read at first.
 pub turn-first : (kind : ℕ) (store : List ℕ) → SoFar kind store store 0 (2 ^ 64 - 1)
-unfolding after
-turn-first kind store = record { reads = []; in-turn = tt; held = refl; kept = sym (placed-none 0 store); same = refl; fits = omega arith; count = refl }
+unfolding gatheredAfter
+turn-first kind store = record { reads = []; in-turn = tt; held = refl; kept = sym (overlaid-none 0 store); same = refl; fits = omega arith; count = refl }
 
 -- More records may come only where the gathering stands so.
 still-more : (g : Gathered) (n : ℕ) → soFar n ≡ turnIn g → (g ≡ more (bytesIn g)) × (length (bytesIn g) ≡ n)
@@ -53,7 +53,7 @@ no-more Case.Failed o n e = absurd (let z : _≡_ {A = ℕ} 0 1 = cc in omega ar
 module _ (kind used turns : ℕ) (entry store exit : List ℕ) (step : Step) (got : Got) (buffer : List ℕ) (g : SoFar kind entry store used turns) (w : WindowIn buffer got)
     (s : Shows (nextRead bodyLimit kind (length store) (readOf got buffer) (more (take used store))) store step exit) where
   -- what was read
-  abbrev r : Read
+  abbrev r : RecordRead
   r = readOf got buffer
 
   -- where the gathering then stands
@@ -61,7 +61,7 @@ module _ (kind used turns : ℕ) (entry store exit : List ℕ) (step : Step) (go
   then = nextRead bodyLimit kind (length store) r (more (take used store))
 
   -- the reads made by then
-  abbrev made : List Read
+  abbrev made : List RecordRead
   made = g .reads ++ r ∷ []
 
   -- They were made in turn.
@@ -69,7 +69,7 @@ module _ (kind used turns : ℕ) (entry store exit : List ℕ) (step : Step) (go
   turned = in-turn-one bodyLimit kind (length entry) (g .reads) r (more []) (g .in-turn) (subst Going (sym (g .held)) (on (take used store))) (is-window buffer got w)
 
   -- They give that.
-  joined : after bodyLimit kind (length entry) made (more []) ≡ then
+  joined : gatheredAfter bodyLimit kind (length entry) made (more []) ≡ then
   joined =
       after-one bodyLimit kind (length entry) (g .reads) r (more [])
       ∙ ap (nextRead bodyLimit kind (length entry) r) (g .held)
@@ -80,8 +80,8 @@ module _ (kind used turns : ℕ) (entry store exit : List ℕ) (step : Step) (go
   bounds = grows bodyLimit kind (length store) r (take used store) (let l = length-take-le used store (g .fits) in omega (arith, g .fits))
 
   -- The store holds it from its start on.
-  stored : exit ≡ placed 0 (bytesIn then) entry
-  stored = s .1 ∙ ap (placed 0 (bytesIn then)) (g .kept) ∙ placed-over (take used store) (bytesIn then) entry (bounds .0) (let b = bounds .1 in omega (arith, g .same))
+  stored : exit ≡ overlaid 0 (bytesIn then) entry
+  stored = s .1 ∙ ap (overlaid 0 (bytesIn then)) (g .kept) ∙ overlaid-over (take used store) (bytesIn then) entry (bounds .0) (let b = bounds .1 in omega (arith, g .same))
 
   -- The outcome, where it is over.
   pub turn-last : ((n : ℕ) → turnOf step ≡ soFar n → ⊥) → Gathers kind entry step exit
@@ -89,7 +89,7 @@ module _ (kind used turns : ℕ) (entry store exit : List ℕ) (step : Step) (go
       record {
         reads = made;
         in-turn = turned;
-        shows = (s .0 ∙ ap turnIn (sym joined), stored ∙ ap (λ (x : Gathered). placed 0 (bytesIn x) entry) (sym joined));
+        shows = (s .0 ∙ ap turnIn (sym joined), stored ∙ ap (λ (x : Gathered). overlaid 0 (bytesIn x) entry) (sym joined));
         many = λ n e. absurd (over n e);
       }
 
@@ -98,13 +98,13 @@ module _ (kind used turns : ℕ) (entry store exit : List ℕ) (step : Step) (go
   turn-more n e h =
       let m = still-more then n (sym (ap turnOf e) ∙ s .0) in
       let b = bounds .1 in
-      let u : take n exit ≡ bytesIn then = ap (λ (k : ℕ). take k exit) (sym (m .1)) ∙ ap (take (length (bytesIn then))) stored ∙ placed-take (bytesIn then) entry in
-      let l : length exit ≡ length entry = ap length stored ∙ placed-length 0 (bytesIn then) entry (omega (arith, g .same)) in
+      let u : take n exit ≡ bytesIn then = ap (λ (k : ℕ). take k exit) (sym (m .1)) ∙ ap (take (length (bytesIn then))) stored ∙ overlaid-take (bytesIn then) entry in
+      let l : length exit ≡ length entry = ap length stored ∙ overlaid-length 0 (bytesIn then) entry (omega (arith, g .same)) in
       record {
         reads = made;
         in-turn = turned;
         held = joined ∙ m .0 ∙ ap more (sym u);
-        kept = stored ∙ ap (λ (x : List ℕ). placed 0 x entry) (sym u);
+        kept = stored ∙ ap (λ (x : List ℕ). overlaid 0 x entry) (sym u);
         same = l;
         fits = omega (arith, g .same, m .1);
         count = omega (arith, length-append (g .reads) (r ∷ []), g .count);
@@ -116,6 +116,6 @@ turns-up kind used turns entry store g z =
     record {
       reads = g .reads;
       in-turn = g .in-turn;
-      shows = (ap soFar (sym (length-take-le used store (g .fits))) ∙ ap turnIn (sym (g .held)), g .kept ∙ ap (λ (x : Gathered). placed 0 (bytesIn x) entry) (sym (g .held)));
+      shows = (ap soFar (sym (length-take-le used store (g .fits))) ∙ ap turnIn (sym (g .held)), g .kept ∙ ap (λ (x : Gathered). overlaid 0 (bytesIn x) entry) (sym (g .held)));
       many = λ n e. omega (arith, g .count);
     }

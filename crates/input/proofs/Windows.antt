@@ -9,7 +9,7 @@ use types.Run.{OneOf, miss}
 use denote.Enum.Declared.{tagOf}
 use Rattle.records.specs.Record.{bodyLimit, wantedOf}
 use Rattle.gather.specs.Gather.{readOf, countOf}
-use Rattle.gather.specs.File.{windowOf, IsWindow}
+use Rattle.gather.specs.File.{recordWindow, IsWindow}
 use Rattle.gather.specs.declared.Got.{Got}
 use Rattle.gather.specs.declared.Got.the-variants as Came
 use Rattle.gather.proofs.Got.{the-type}
@@ -54,7 +54,7 @@ module _ (first last : List ℕ) (h more at n : ℕ) (head : h ≡ 4) (asked : m
 
 -- So a read that did not fail is one window.
 pub is-window : (buffer : List ℕ) (got : Got) → WindowIn buffer got → IsWindow bodyLimit (readOf got buffer)
-unfolding windowOf WindowIn
+unfolding recordWindow WindowIn
 is-window buffer (Came.Bytes n) w =
     let l = length-take-le n buffer (w .0) in
     take-all (4 + wantedOf bodyLimit (take 4 (take n buffer))) (take n buffer) (omega (arith, w .1))

@@ -6,8 +6,8 @@ use mathlib.Core.List.{List, []}
 use lib.ListN.{length, take, drop}
 use lib.IntN.{ℤ, pos, negsuc}
 use Rattle.records.specs.Record.{bodyLimit, wantedOf}
-use Rattle.gather.specs.Gather.{more, Read, soFar, turnOf, Shows}
-use Rattle.gather.specs.File.{after, InTurn}
+use Rattle.gather.specs.Gather.{more, RecordRead, soFar, turnOf, Shows}
+use Rattle.gather.specs.File.{gatheredAfter, InTurn}
 use Rattle.gather.specs.declared.Got.{Got}
 use Rattle.gather.specs.declared.Got.the-variants as Came
 use Rattle.gather.specs.declared.Step.{Step}
@@ -47,7 +47,7 @@ WindowIn buffer Came.Failed = Unit {0}
 
 -- these reads were made in turn, and this is what they come to; and where more could come they are 2^64 - 1
 pub record Gathers (kind : ℕ) (entry : List ℕ) (step : Step) (exit : List ℕ) : Type 0 where
-  pub reads : List Read
+  pub reads : List RecordRead
   pub in-turn : InTurn bodyLimit kind (length entry) reads (more [])
-  pub shows : Shows (after bodyLimit kind (length entry) reads (more [])) entry step exit
+  pub shows : Shows (gatheredAfter bodyLimit kind (length entry) reads (more [])) entry step exit
   pub many : (n : ℕ) → turnOf step ≡ soFar n → length reads ≡ 2 ^ 64 - 1

@@ -4,7 +4,7 @@ use mathlib.Core.List.{List, [], _∷_, _++_}
 use Prim.Native.Nat.{ℕ, _+_, _*_, _<_}
 use lib.ListN.{take, drop}
 use Rattle.bits.specs.Bits.{bit, number, lineBit, streamBit, cut}
-use Rattle.line.specs.Word.{word}
+use Rattle.line.specs.BlockNumber.{blockNumber}
 use Rattle.line.specs.declared.Block.{Block}
 
 pub wide-unique : (x r s : ℕ) → (r ≡ x) × (r < 256) → (s ≡ x) × (s < 256) → r ≡ s
@@ -29,6 +29,6 @@ pub store-unique : (room : List ℕ) (at w : ℕ) (after after′ : List ℕ)
 store-unique room at w after after′ p q = p ∙ sym q
 
 pub put-group-unique : (room : List ℕ) (at : ℕ) (a b c d : Block) (after after′ : List ℕ)
-    → after ≡ take at room ++ cut 8 (streamBit 66 (word a ∷ word b ∷ word c ∷ word d ∷ [])) 33 ++ drop (at + 33) room
-    → after′ ≡ take at room ++ cut 8 (streamBit 66 (word a ∷ word b ∷ word c ∷ word d ∷ [])) 33 ++ drop (at + 33) room → after ≡ after′
+    → after ≡ take at room ++ cut 8 (streamBit 66 (blockNumber a ∷ blockNumber b ∷ blockNumber c ∷ blockNumber d ∷ [])) 33 ++ drop (at + 33) room
+    → after′ ≡ take at room ++ cut 8 (streamBit 66 (blockNumber a ∷ blockNumber b ∷ blockNumber c ∷ blockNumber d ∷ [])) 33 ++ drop (at + 33) room → after ≡ after′
 put-group-unique room at a b c d after after′ p q = p ∙ sym q

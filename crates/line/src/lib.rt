@@ -1,10 +1,10 @@
 // Bits of the line at any place, and blocks put on it.
 ghost use mathlib.Core.Path.{_≡_};
 ghost use mathlib.Core.List.{[], _∷_, _++_};
-ghost use Prim.Native.Nat.{ℕ, _+_, _*_, _≤_, _<_};
+ghost use Prim.Native.Nat.{_+_, _*_, _≤_, _<_};
 ghost use lib.ListN.{length, take, drop};
 ghost use Rattle.bits.specs.Bits.{bit, number, lineBit, streamBit, cut};
-ghost use Rattle.line.specs.Word.{word};
+ghost use Rattle.line.specs.BlockNumber.{blockNumber};
 
 // A block: its two header bits and its 64 payload bits, each with the first bit lowest.
 pub struct Block {
@@ -91,7 +91,7 @@ fn put_words(room: &mut [u8], at: usize, w: u64, x: u64, y: u64, z: u64, last: u
 // Four blocks put on the line, one after the other: 264 bits, which are four words and a byte.
 pub fn put_group(room: &mut [u8], at: usize, a: Block, b: Block, c: Block, d: Block)
     requires { ⌜ (at + 33 ≤ length (now room)) × (a .header < 4) × (b .header < 4) × (c .header < 4) × (d .header < 4) ⌝ }
-    ensures { λ r. ⌜ now (room .exit) ≡ take at (now (room .entry)) ++ cut 8 (streamBit 66 (word a ∷ word b ∷ word c ∷ word d ∷ [])) 33 ++ drop (at + 33) (now (room .entry)) ⌝ }
+    ensures { λ r. ⌜ now (room .exit) ≡ take at (now (room .entry)) ++ cut 8 (streamBit 66 (blockNumber a ∷ blockNumber b ∷ blockNumber c ∷ blockNumber d ∷ [])) 33 ++ drop (at + 33) (now (room .entry)) ⌝ }
 {
     put_words(
         room,

@@ -10,7 +10,7 @@ use lib.Dec.{T, ltb, leb}
 use lib.Bits.{bitOr, bitXor, and-le-l, and-le-r, or-add-and, xor-add-and}
 use lib.ListN.{length, take, drop}
 use borrow.Author.Tests.{lt-ltb, le-ltb, lt-leb}
-use Rattle.bits.specs.Bits.{bit, number, lineBit, lineBits}
+use Rattle.bits.specs.Bits.{bit, lineBit, lineBits}
 use Rattle.bits.proofs.Laws.{by-lt, number-lt}
 use Rattle.bits.proofs.Lists.{lineBit-lt}
 use Rattle.block.specs.Block.{twoWords, decoded, classOf, kindFor, kindIn, isError}
@@ -26,13 +26,13 @@ use Rattle.carrying.specs.Carrying.{Takes}
 use Rattle.carrying.specs.declared.Taken.{Taken}
 use Rattle.decoding.specs.Vector.{vectorBytes}
 use Rattle.decoding.specs.declared.Vector.{Vector}
-use Rattle.diagrams.specs.Lock.{lockOf, slipsOf}
-use Rattle.diagrams.specs.Rate.{rateOf}
+use Rattle.lock.specs.Lock.{lockOf, slipsOf}
+use Rattle.lock.specs.Rate.{rateOf}
 use Rattle.diagrams.specs.Diagram.{diagramOf, afterIdle, afterData, afterError, afterLow, stateNumber, follows}
-use Rattle.diagrams.specs.declared.Rate.{Rate}
+use Rattle.lock.specs.declared.Rate.{Rate}
 use Rattle.diagrams.specs.declared.State.{State}
 use Rattle.diagrams.specs.declared.State.the-variants.{Init, Control, Data, Terminate, Error, LowPower}
-use Rattle.diagrams.proofs.InLock.{lock-valid, lock-stays, no-slip, rate-valid}
+use Rattle.lock.proofs.InLock.{lock-valid, lock-stays, no-slip, rate-valid}
 use Rattle.blocks.specs.Blocks.{headerAt, payloadAt, headersAt, Fours}
 use Rattle.blocks.specs.declared.Four.{Four}
 use Rattle.receiving.specs.Machine.{linkOf, testedOf, validOf}
@@ -49,7 +49,7 @@ use Rattle.receiving.specs.declared.Progress.{Progress}
 use Rattle.receiving.proofs.Counted.{free, counted-is, oneMore, out-decoded}
 use Rattle.receiving.proofs.Settle.{as-decoded, held-put, held-ten}
 use Rattle.receiving.proofs.Turning.{turn-block, held-fits}
-use Rattle.receiving.proofs.Stretching.{never, whole, whole-taken, turns-more}
+use Rattle.receiving.proofs.Stretching.{never, wholeBlock, whole-taken, turns-more}
 
 -- ---- where a block that is held goes
 
@@ -145,7 +145,7 @@ module _ (line room : List ℕ) (p : Progress) (header payload : ℕ) (cm : Come
 
     -- what is taken from the line
     abbrev takes : Taken
-    takes = whole p header payload
+    takes = wholeBlock p header payload
 
     taken-is : Takes (lineBits line) (p .pos) (p .receiver .skip) (p .receiver .carried) takes
     taken-is = whole-taken line p header payload (cm .under .sound) (cm .lock .skip) (cm .lock .none) (omega (arith, cm .here)) (cm .header) (cm .payload)

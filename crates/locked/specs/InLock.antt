@@ -10,8 +10,8 @@ use Rattle.block.specs.declared.Class.{Class}
 use Rattle.scrambler.specs.Scrambler.{descrambled, lineAfter}
 use Rattle.decoding.specs.Vector.{vectorBytes}
 use Rattle.decoding.specs.declared.Vector.{Vector}
-use Rattle.diagrams.specs.Lock.{lockOf}
-use Rattle.diagrams.specs.Rate.{rateOf}
+use Rattle.lock.specs.Lock.{lockOf}
+use Rattle.lock.specs.Rate.{rateOf}
 use Rattle.diagrams.specs.Diagram.{diagramOf}
 use Rattle.diagrams.specs.declared.State.{State}
 use Rattle.blocks.specs.Blocks.{headerAt, payloadAt}
@@ -125,7 +125,7 @@ ranOf p s =
     }
 
 -- in lock, with n blocks more, which end neither the line nor the window
-pub record Ready (line room : List ℕ) (p : Progress) (n : ℕ) : Type 0 where
+pub record MoreAhead (line room : List ℕ) (p : Progress) (n : ℕ) : Type 0 where
   pub under : Under line room p
   pub lock : InLock p
   pub here : p .pos + 66 * n < 8 * length line

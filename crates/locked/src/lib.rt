@@ -1,28 +1,28 @@
 // Blocks in lock, four at a time: four data blocks, or four of idles, at once, any others that are decoded at once one after the other. What is
 // left stands with `turn`.
+use answering::hand_out;
 use block::Class;
 use block::Edition;
 use blocks::Four;
 use blocks::four_at;
+use counting::count_vector;
 use decoding::QuickDecoded;
 use decoding::Vector;
+use decoding::put_vector;
 use decoding::quick;
-use diagrams::Lock;
-use diagrams::Rate;
 use diagrams::State;
 use diagrams::diagram_step;
 use diagrams::may_follow;
 use line::Block;
+use lock::Lock;
+use lock::Rate;
 use receiving::Counts;
 use receiving::Handed;
 use receiving::Held;
 use receiving::Link;
 use receiving::Progress;
 use receiving::Receiver;
-use receiving::answering::hand_out;
-use receiving::counting::count_vector;
 use scrambler::descramble;
-use vectors::put_vector;
 ghost use mathlib.Core.Path.{_≡_};
 ghost use mathlib.Core.Bool.{true, false, cond};
 ghost use Prim.Native.Nat.{_+_, _*_, _/_, _^_, _≤_, _<_};
@@ -38,7 +38,7 @@ ghost use Rattle.decoding.specs.Vector.{vectorBytes};
 ghost use Rattle.blocks.specs.Blocks.{headerAt, payloadAt, Fours};
 ghost use Rattle.receiving.specs.Receive.{decodes, errs};
 ghost use Rattle.receiving.specs.Loop.{Under, Stretches};
-ghost use Rattle.locked.specs.InLock.{InLock, GoesTo, Comes, Is, ranOf, Steps, StepsFour, AllIdle, Ready, Groups};
+ghost use Rattle.locked.specs.InLock.{InLock, GoesTo, Comes, Is, ranOf, Steps, StepsFour, AllIdle, MoreAhead, Groups};
 
 // Whether the receiver is in lock and not high, at the first bit of a block, and holds a block that was tested so.
 fn in_lock(p: Progress) -> bool
@@ -317,7 +317,7 @@ fn at_once(edition: Edition, header: u64, payload: u64) -> QuickDecoded
 
 // One block more, if it is decoded at once: the block held is answered.
 fn single(line: &[u8], room: &mut [u8], p: Progress, s: Run, b: Block) -> Run
-    requires { ⌜ (length (now line) ≤ 825000) × Ready (now line) (now room) (ranOf p s) 1 × (b .header ≡ headerAt (now line) (p .pos + 66 * s .count)) × (b .payload ≡ payloadAt (now line) (p .pos + 66 * s .count)) ⌝ }
+    requires { ⌜ (length (now line) ≤ 825000) × MoreAhead (now line) (now room) (ranOf p s) 1 × (b .header ≡ headerAt (now line) (p .pos + 66 * s .count)) × (b .payload ≡ payloadAt (now line) (p .pos + 66 * s .count)) ⌝ }
     ensures { λ r. ⌜ Stretches (now (line .entry)) (now (room .entry)) (now (room .exit)) (ranOf p s) (ranOf p r) × InLock (ranOf p r) × (s .count < r .count → r .count ≡ s .count + 1) ⌝ }
 {
     let r = p.receiver;
@@ -373,7 +373,7 @@ fn data_step(line: &[u8], room: &mut [u8], p: Progress, s: Run, payload: u64) ->
 
 // Four of them.
 fn data_four(line: &[u8], room: &mut [u8], p: Progress, s: Run, f: Four) -> Run
-    requires { ⌜ (length (now line) ≤ 825000) × Ready (now line) (now room) (ranOf p s) 4 × Fours (now line) (p .pos + 66 * s .count) f × (f .headers ≡ 0xaa) × GoesTo Data (s .state) (s .class) ⌝ }
+    requires { ⌜ (length (now line) ≤ 825000) × MoreAhead (now line) (now room) (ranOf p s) 4 × Fours (now line) (p .pos + 66 * s .count) f × (f .headers ≡ 0xaa) × GoesTo Data (s .state) (s .class) ⌝ }
     ensures { λ r. ⌜ StepsFour (now (line .entry)) (now (room .entry)) (now (room .exit)) (ranOf p s) (ranOf p r) ⌝ }
 {
     let a = data_step(line, room, p, s, f.a);
@@ -419,7 +419,7 @@ fn idle_step(line: &[u8], room: &mut [u8], p: Progress, s: Run, payload: u64) ->
 
 // Four of them.
 fn idle_four(line: &[u8], room: &mut [u8], p: Progress, s: Run, f: Four) -> Run
-    requires { ⌜ (length (now line) ≤ 825000) × Ready (now line) (now room) (ranOf p s) 4 × Fours (now line) (p .pos + 66 * s .count) f × (f .headers ≡ 0x55) × GoesTo Control (s .state) (s .class) × AllIdle (s .history) f ⌝ }
+    requires { ⌜ (length (now line) ≤ 825000) × MoreAhead (now line) (now room) (ranOf p s) 4 × Fours (now line) (p .pos + 66 * s .count) f × (f .headers ≡ 0x55) × GoesTo Control (s .state) (s .class) × AllIdle (s .history) f ⌝ }
     ensures { λ r. ⌜ StepsFour (now (line .entry)) (now (room .entry)) (now (room .exit)) (ranOf p s) (ranOf p r) ⌝ }
 {
     let a = idle_step(line, room, p, s, f.a);
@@ -455,7 +455,7 @@ fn rest(f: Four) -> Four
 
 // As many of four blocks as are decoded at once, one after the other.
 fn each(line: &[u8], room: &mut [u8], p: Progress, start: Run, four: Four) -> Run
-    requires { ⌜ (length (now line) ≤ 825000) × Ready (now line) (now room) (ranOf p start) 4 × Fours (now line) (p .pos + 66 * start .count) four ⌝ }
+    requires { ⌜ (length (now line) ≤ 825000) × MoreAhead (now line) (now room) (ranOf p start) 4 × Fours (now line) (p .pos + 66 * start .count) four ⌝ }
     ensures { λ r. ⌜ Stretches (now (line .entry)) (now (room .entry)) (now (room .exit)) (ranOf p start) (ranOf p r) × InLock (ranOf p r) ⌝ }
 {
     let mut s = start;
@@ -476,7 +476,7 @@ fn each(line: &[u8], room: &mut [u8], p: Progress, start: Run, four: Four) -> Ru
 
 // Four blocks, or as many of them as are decoded at once.
 fn group(line: &[u8], room: &mut [u8], p: Progress, s: Run, f: Four) -> Run
-    requires { ⌜ (length (now line) ≤ 825000) × Ready (now line) (now room) (ranOf p s) 4 × Fours (now line) (p .pos + 66 * s .count) f ⌝ }
+    requires { ⌜ (length (now line) ≤ 825000) × MoreAhead (now line) (now room) (ranOf p s) 4 × Fours (now line) (p .pos + 66 * s .count) f ⌝ }
     ensures { λ r. ⌜ Stretches (now (line .entry)) (now (room .entry)) (now (room .exit)) (ranOf p s) (ranOf p r) × InLock (ranOf p r) ⌝ }
 {
     if f.headers == 0xaa {

@@ -6,11 +6,11 @@ use native.Mathlib.Omega.{arith}
 use lib.ListN.{length, drop, length-append, length-drop}
 use Rattle.refusals.specs.First.{Verdict, accepted, first, byVerdict}
 use Rattle.refusals.specs.First.{refused as refuses}
-use Rattle.place.specs.Placed.{Writes}
-use Rattle.place.proofs.Laws.{writes-on}
+use Rattle.putting.specs.Overlaid.{PutsText}
+use Rattle.putting.proofs.Laws.{puts-on}
 use Rattle.records.specs.Record.{bodyOf}
-use Rattle.gather.specs.Gather.{Gathered, more, done, stop, failed, bytesIn}
-use Rattle.display.specs.Display.{hexLines, summaryLines, refusedLine, inputFailedLine}
+use Rattle.gather.specs.Gather.{done}
+use Rattle.display.specs.Display.{hexLines, summaryLines, refusedLine}
 use Rattle.display.proofs.Laws.{lines-length, summary-length, refused-length}
 use Rattle.bits.specs.Bits.{lineBits}
 use Rattle.diagrams.specs.declared.State.the-variants.{Init}
@@ -21,7 +21,7 @@ use Rattle.receiving.specs.Receive.{runOf, vectorsOf, receivedVectors}
 use Rattle.receiving.proofs.Count.{length-answers, tens-run, length-vectors, vectors-fit}
 use Rattle.receiving.specs.Answer.{ReceiveAnswer, received, refused, receiveChecks, summaryOf, receiveAnswer, receiveRoom}
 use Rattle.receiving.specs.declared.Summary.{Summary}
-use Rattle.programs.specs.Programs.{receivedText, receiverOutput}
+use Rattle.programs.specs.Programs.{receivedText, receiverText, receiverOutput}
 use Rattle.programs.proofs.Outcomes.{body-first, Program}
 
 -- Each vector has ten bytes.
@@ -37,21 +37,15 @@ accepted-by (refuses m p) x z e = absurd (let z : _≡_ {A = ℕ} 0 1 = cc in om
 -- All that the receiver writes fits.
 summary-fits : (line : List ℕ) (x : ReceiveAnswer) → length line ≤ 49500 → length (receivedText line x) ≤ 126109
 summary-fits line (received z) f =
-    omega (arith, length-append (hexLines (receivedVectors Old line)) (summaryLines (z .counts .tested) (z .counts .slips) (z .locked) (z .high)), lines-length (receivedVectors Old line), summary-length (z .counts .tested) (z .counts .slips) (z .locked) (z .high), vectors-fit Old line)
+    let vectors = receivedVectors Old line in
+    let joined = length-append (hexLines vectors) (summaryLines (z .counts .tested) (z .counts .slips) (z .locked) (z .high)) in
+    omega (arith, joined, lines-length vectors, summary-length (z .counts .tested) (z .counts .slips) (z .locked) (z .high), vectors-fit Old line)
 summary-fits line (refused n p) f = omega (arith, refused-length n)
 
--- All of it fits the output.
-receiver-short : (g : Gathered) → length (bytesIn g) ≤ 49500 → length (receiverOutput g) ≤ 126109
-unfolding receiverOutput inputFailedLine
-receiver-short (done line) h = summary-fits line (receiveAnswer 0 line 60000) h
-receiver-short (stop n b) h = omega (arith, refused-length n)
-receiver-short (failed b) h = omega arith
-receiver-short (more b) h = omega arith
-
 -- The receiver.
-pub receiver-program : Program receiverOutput 49500 126109
-unfolding receiverOutput
-receiver-program = record { refusal = λ n b. refl; failure = λ b. refl; endless = λ b. refl; short = receiver-short }
+pub receiver-program : Program receiverText 49500 126109
+unfolding receiverText
+receiver-program = record { room = omega arith; short = λ line h. summary-fits line (receiveAnswer 0 line 60000) h }
 
 module _ (line vectors : List ℕ) (room : length vectors ≡ 60000) where
   module _ (after : List ℕ) (z : Summary)
@@ -90,23 +84,23 @@ module _ (line vectors : List ℕ) (room : length vectors ≡ 60000) where
       pub lines-fit : 21 * (length body / 10) ≤ 126000
       lines-fit = let l = ap length (b ∙ vectors-are) in omega (arith, vectors-count, vectors-small)
 
-      module _ (out mid : List ℕ) (k : ℕ) (w : Writes 0 (hexLines body) out k mid) where
+      module _ (out mid : List ℕ) (k : ℕ) (w : PutsText 0 (hexLines body) out k mid) where
         -- Where their lines end.
         pub lines-end : k ≤ 126000
         lines-end = omega (arith, w .ends, lines-length body, lines-fit)
 
         -- The lines of the vectors and the summary are what the receiver writes.
-        pub received-written : (exit : List ℕ) (r : ℕ) → 126109 ≤ length out → Writes k (summaryLines (z .counts .tested) (z .counts .slips) (z .locked) (z .high)) mid r exit → Writes 0 (receiverOutput (done line)) out r exit
-        unfolding receiverOutput
+        pub received-written : (exit : List ℕ) (r : ℕ) → 126109 ≤ length out → PutsText k (summaryLines (z .counts .tested) (z .counts .slips) (z .locked) (z .high)) mid r exit → PutsText 0 (receiverOutput (done line)) out r exit
+        unfolding receiverText
         received-written exit r f v =
-            let w₁ = subst (λ (x : List ℕ). Writes 0 (hexLines x) out k mid) (b ∙ vectors-are) w in
-            subst (λ (x : ReceiveAnswer). Writes 0 (receivedText line x) out r exit) (e ∙ ap (receiveAnswer 0 line) room)
-            (writes-on 0 k r (hexLines (receivedVectors Old line)) (summaryLines (z .counts .tested) (z .counts .slips) (z .locked) (z .high)) out mid exit w₁ v
+            let w₁ = subst (λ (x : List ℕ). PutsText 0 (hexLines x) out k mid) (b ∙ vectors-are) w in
+            subst (λ (x : ReceiveAnswer). PutsText 0 (receivedText line x) out r exit) (e ∙ ap (receiveAnswer 0 line) room)
+            (puts-on 0 k r (hexLines (receivedVectors Old line)) (summaryLines (z .counts .tested) (z .counts .slips) (z .locked) (z .high)) out mid exit w₁ v
             (omega (arith, w₁ .ends, v .ends, lines-end, summary-length (z .counts .tested) (z .counts .slips) (z .locked) (z .high))))
 
   -- Receiving refused: its line is what the receiver writes.
   pub refused-written : (out exit : List ℕ) (r n p : ℕ) → refused n p ≡ receiveAnswer 0 line (length vectors)
-      → Writes 0 (refusedLine n) out r exit → Writes 0 (receiverOutput (done line)) out r exit
-  unfolding receiverOutput
+      → PutsText 0 (refusedLine n) out r exit → PutsText 0 (receiverOutput (done line)) out r exit
+  unfolding receiverText
   refused-written out exit r n p e w =
-      subst (λ (x : ReceiveAnswer). Writes 0 (receivedText line x) out r exit) (e ∙ ap (receiveAnswer 0 line) room) w
+      subst (λ (x : ReceiveAnswer). PutsText 0 (receivedText line x) out r exit) (e ∙ ap (receiveAnswer 0 line) room) w

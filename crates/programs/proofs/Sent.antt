@@ -7,16 +7,16 @@ use lib.ListN.{length, drop}
 use Rattle.refusals.specs.First.{Verdict, accepted, first, byVerdict}
 use Rattle.refusals.specs.First.{refused as refuses}
 use Rattle.bits.proofs.Laws.{length-cut}
-use Rattle.place.specs.Placed.{Writes}
+use Rattle.putting.specs.Overlaid.{PutsText}
 use Rattle.records.specs.Record.{bodyOf}
-use Rattle.gather.specs.Gather.{Gathered, more, done, stop, failed, bytesIn}
-use Rattle.display.specs.Display.{lineRecords, refusedLine, inputFailedLine}
+use Rattle.gather.specs.Gather.{done}
+use Rattle.display.specs.Display.{lineRecords, refusedLine}
 use Rattle.display.proofs.Laws.{records-length, refused-length}
 use Rattle.block.specs.declared.Edition.the-variants.{Old}
 use Rattle.block.specs.Block.{editionOf}
-use Rattle.sending.specs.Send.{sentLine}
+use Rattle.transmit.specs.Send.{sentLine}
 use Rattle.sending.specs.Answer.{SendAnswer, sent, refused, sendChecks, sendAnswer, sendRoom}
-use Rattle.programs.specs.Programs.{sentText, senderOutput}
+use Rattle.programs.specs.Programs.{sentText, senderText, senderOutput}
 use Rattle.programs.proofs.Outcomes.{body-first, Program}
 
 -- Four vectors give 33 line bytes.
@@ -38,18 +38,10 @@ text-short : (vectors : List ℕ) (x : SendAnswer) → length vectors ≤ 60000 
 text-short vectors (sent a b c) h = records-fit vectors h
 text-short vectors (refused n p) h = omega (arith, refused-length n)
 
--- All of it fits the output.
-sender-short : (g : Gathered) → length (bytesIn g) ≤ 60000 → length (senderOutput g) ≤ 49552
-unfolding senderOutput inputFailedLine
-sender-short (done vectors) h = text-short vectors (sendAnswer 0 vectors 0 49500) h
-sender-short (stop n b) h = omega (arith, refused-length n)
-sender-short (failed b) h = omega arith
-sender-short (more b) h = omega arith
-
 -- The sender.
-pub sender-program : Program senderOutput 60000 49552
-unfolding senderOutput
-sender-program = record { refusal = λ n b. refl; failure = λ b. refl; endless = λ b. refl; short = sender-short }
+pub sender-program : Program senderText 60000 49552
+unfolding senderText
+sender-program = record { room = omega arith; short = λ vectors h. text-short vectors (sendAnswer 0 vectors 0 49500) h }
 
 module _ (vectors line : List ℕ) (room : length line ≡ 49500) where
   -- Sending succeeded: the line stands at the start of the room.
@@ -71,15 +63,15 @@ module _ (vectors line : List ℕ) (room : length line ≡ 49500) where
     body-fits h = let l = ap (λ (x : List ℕ). length (lineRecords 4092 x)) body-is in omega (arith, records-fit vectors h)
 
     -- Its records are what the sender writes.
-    pub sent-written : (out exit : List ℕ) (r : ℕ) → Writes 0 (lineRecords 4092 body) out r exit → Writes 0 (senderOutput (done vectors)) out r exit
-    unfolding senderOutput
+    pub sent-written : (out exit : List ℕ) (r : ℕ) → PutsText 0 (lineRecords 4092 body) out r exit → PutsText 0 (senderOutput (done vectors)) out r exit
+    unfolding senderText
     sent-written out exit r w =
-        subst (λ (x : SendAnswer). Writes 0 (sentText vectors x) out r exit) (e ∙ ap (sendAnswer 0 vectors 0) room)
-        (subst (λ (x : List ℕ). Writes 0 (lineRecords 4092 x) out r exit) body-is w)
+        subst (λ (x : SendAnswer). PutsText 0 (sentText vectors x) out r exit) (e ∙ ap (sendAnswer 0 vectors 0) room)
+        (subst (λ (x : List ℕ). PutsText 0 (lineRecords 4092 x) out r exit) body-is w)
 
   -- Sending refused: its line is what the sender writes.
   pub refused-written : (out exit : List ℕ) (r n p : ℕ) → refused n p ≡ sendAnswer 0 vectors 0 (length line)
-      → Writes 0 (refusedLine n) out r exit → Writes 0 (senderOutput (done vectors)) out r exit
-  unfolding senderOutput
+      → PutsText 0 (refusedLine n) out r exit → PutsText 0 (senderOutput (done vectors)) out r exit
+  unfolding senderText
   refused-written out exit r n p e w =
-      subst (λ (x : SendAnswer). Writes 0 (sentText vectors x) out r exit) (e ∙ ap (sendAnswer 0 vectors 0) room) w
+      subst (λ (x : SendAnswer). PutsText 0 (sentText vectors x) out r exit) (e ∙ ap (sendAnswer 0 vectors 0) room) w

@@ -7,12 +7,14 @@ use libc::STDOUT_FILENO;
 use receiving::Received;
 use sending::Sent;
 ghost use mathlib.Core.Path.{_≡_};
+ghost use mathlib.Core.List.{[]};
 ghost use Prim.Native.Nat.{_≤_};
 ghost use lib.ListN.{length};
 ghost use Rattle.io.specs.Counts.{Counts};
-ghost use Rattle.place.specs.Placed.{Writes};
+ghost use Rattle.putting.specs.Overlaid.{PutsText};
 ghost use Rattle.gather.specs.Gather.{done};
-ghost use Rattle.programs.specs.Programs.{vectorBytes, lineBytes, senderOutput, receiverOutput, gatheredOf, Reads};
+ghost use Rattle.display.specs.Display.{inputFailedLine};
+ghost use Rattle.programs.specs.Programs.{vectorLimit, lineLimit, outputOf, senderOutput, receiverOutput, gatheredOf, PutsForReads};
 
 // Writes to standard output. Where that fails, a full disk or a closed pipe, standard error says so: a program has no status to end with.
 fn write_out(text: &[u8]) {
@@ -21,10 +23,23 @@ fn write_out(text: &[u8]) {
     }
 }
 
+// What either program writes where the records did not end: a refusal, or that the input failed.
+fn without_end(step: Step, out: &mut [u8]) -> usize
+    requires { ⌜ 29 ≤ length (now out) ⌝ }
+    ensures { λ r. ⌜ PutsText 0 (outputOf (λ bytes. inputFailedLine) (gatheredOf step [])) (now (out .entry)) r (now (out .exit)) ⌝ }
+{
+    match step {
+        Step::Refused(why) => display::refused_line(why, out, 0),
+        Step::Failed => display::input_failed_line(out, 0),
+        Step::More(_) => display::input_failed_line(out, 0),
+        Step::Done(_) => display::input_failed_line(out, 0),
+    }
+}
+
 // Sends the vectors by way of a lent line.
 fn sent_output(vectors: &[u8], line: &mut [u8], out: &mut [u8]) -> usize
     requires { ⌜ (length (now vectors) ≤ 60000) × (length (now line) ≡ 49500) × (49552 ≤ length (now out)) ⌝ }
-    ensures { λ r. ⌜ Writes 0 (senderOutput (done (now (vectors .entry)))) (now (out .entry)) r (now (out .exit)) ⌝ }
+    ensures { λ r. ⌜ PutsText 0 (senderOutput (done (now (vectors .entry)))) (now (out .entry)) r (now (out .exit)) ⌝ }
 {
     match sending::send(0, vectors, 0, line) {
         Sent::Done(_) => {
@@ -38,7 +53,7 @@ fn sent_output(vectors: &[u8], line: &mut [u8], out: &mut [u8]) -> usize
 // The same, with a line of its own.
 fn send_output(vectors: &[u8], out: &mut [u8]) -> usize
     requires { ⌜ (length (now vectors) ≤ 60000) × (49552 ≤ length (now out)) ⌝ }
-    ensures { λ r. ⌜ Writes 0 (senderOutput (done (now (vectors .entry)))) (now (out .entry)) r (now (out .exit)) ⌝ }
+    ensures { λ r. ⌜ PutsText 0 (senderOutput (done (now (vectors .entry)))) (now (out .entry)) r (now (out .exit)) ⌝ }
 {
     let mut line = [0u8; 49500];
     sent_output(vectors, &mut line, out)
@@ -46,20 +61,18 @@ fn send_output(vectors: &[u8], out: &mut [u8]) -> usize
 
 // What the sender writes, by what it gathered.
 pub fn sender_output(step: Step, vectors: &[u8; 60000], out: &mut [u8; 49552]) -> usize
-    ensures { λ r. ⌜ Writes 0 (senderOutput (gatheredOf step (now (vectors .entry)))) (now (out .entry)) r (now (out .exit)) ⌝ }
+    ensures { λ r. ⌜ PutsText 0 (senderOutput (gatheredOf step (now (vectors .entry)))) (now (out .entry)) r (now (out .exit)) ⌝ }
     ensures { λ r. ⌜ Counts r (now (out .exit)) ⌝ }
 {
-    match step {
-        Step::Done(n) => send_output(records::body(vectors, 0, n), out),
-        Step::Refused(why) => display::refused_line(why, out, 0),
-        Step::Failed => display::input_failed_line(out, 0),
-        Step::More(_) => display::input_failed_line(out, 0),
-    }
+    let Step::Done(n) = step else {
+        return without_end(step, out);
+    };
+    send_output(records::body(vectors, 0, n), out)
 }
 
 // Gathers vector records from a file descriptor, and puts what the sender writes into the output.
 pub fn sender_from(fd: i32, out: &mut [u8; 49552]) -> usize
-    ensures { λ r. ⌜ Reads 1 vectorBytes senderOutput (now (out .entry)) r (now (out .exit)) ⌝ }
+    ensures { λ r. ⌜ PutsForReads 1 vectorLimit senderOutput (now (out .entry)) r (now (out .exit)) ⌝ }
     ensures { λ r. ⌜ Counts r (now (out .exit)) ⌝ }
 {
     let mut vectors = [0u8; 60000];
@@ -77,7 +90,7 @@ pub fn sender() {
 // Receives the line by way of lent vectors.
 fn received_output(line: &[u8], vectors: &mut [u8], out: &mut [u8]) -> usize
     requires { ⌜ (length (now vectors) ≡ 60000) × (126109 ≤ length (now out)) ⌝ }
-    ensures { λ r. ⌜ Writes 0 (receiverOutput (done (now (line .entry)))) (now (out .entry)) r (now (out .exit)) ⌝ }
+    ensures { λ r. ⌜ PutsText 0 (receiverOutput (done (now (line .entry)))) (now (out .entry)) r (now (out .exit)) ⌝ }
 {
     match reception::receive(0, line, vectors) {
         Received::Done(s) => {
@@ -93,7 +106,7 @@ fn received_output(line: &[u8], vectors: &mut [u8], out: &mut [u8]) -> usize
 // The same, with vectors of its own.
 fn receive_output(line: &[u8], out: &mut [u8]) -> usize
     requires { ⌜ 126109 ≤ length (now out) ⌝ }
-    ensures { λ r. ⌜ Writes 0 (receiverOutput (done (now (line .entry)))) (now (out .entry)) r (now (out .exit)) ⌝ }
+    ensures { λ r. ⌜ PutsText 0 (receiverOutput (done (now (line .entry)))) (now (out .entry)) r (now (out .exit)) ⌝ }
 {
     let mut vectors = [0u8; 60000];
     received_output(line, &mut vectors, out)
@@ -101,20 +114,18 @@ fn receive_output(line: &[u8], out: &mut [u8]) -> usize
 
 // What the receiver writes, by what it gathered.
 pub fn receiver_output(step: Step, line: &[u8; 49500], out: &mut [u8; 126109]) -> usize
-    ensures { λ r. ⌜ Writes 0 (receiverOutput (gatheredOf step (now (line .entry)))) (now (out .entry)) r (now (out .exit)) ⌝ }
+    ensures { λ r. ⌜ PutsText 0 (receiverOutput (gatheredOf step (now (line .entry)))) (now (out .entry)) r (now (out .exit)) ⌝ }
     ensures { λ r. ⌜ Counts r (now (out .exit)) ⌝ }
 {
-    match step {
-        Step::Done(n) => receive_output(records::body(line, 0, n), out),
-        Step::Refused(why) => display::refused_line(why, out, 0),
-        Step::Failed => display::input_failed_line(out, 0),
-        Step::More(_) => display::input_failed_line(out, 0),
-    }
+    let Step::Done(n) = step else {
+        return without_end(step, out);
+    };
+    receive_output(records::body(line, 0, n), out)
 }
 
 // Gathers line records from a file descriptor, and puts what the receiver writes into the output.
 pub fn receiver_from(fd: i32, out: &mut [u8; 126109]) -> usize
-    ensures { λ r. ⌜ Reads 2 lineBytes receiverOutput (now (out .entry)) r (now (out .exit)) ⌝ }
+    ensures { λ r. ⌜ PutsForReads 2 lineLimit receiverOutput (now (out .entry)) r (now (out .exit)) ⌝ }
     ensures { λ r. ⌜ Counts r (now (out .exit)) ⌝ }
 {
     let mut line = [0u8; 49500];

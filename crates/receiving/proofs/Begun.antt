@@ -16,9 +16,9 @@ use Rattle.diagrams.specs.Diagram.{afterIdle, afterData, afterError, afterLow, 
 use Rattle.diagrams.specs.declared.State.{State}
 use Rattle.diagrams.specs.declared.State.the-variants.{Init, Control, Data, Terminate, Error, LowPower}
 use Rattle.receiving.specs.Machine.{Tested, testedOf}
-use Rattle.receiving.specs.Receive.{ends, stateOf, answerIn, Judged, answer, judge, answers, howMany, decodes, errs, begins, replaces, handedOf, runOf, vectorsOf}
+use Rattle.receiving.specs.Receive.{ends, stateOf, answerIn, judge, answers, howMany, decodes, errs, begins, replaces, handedOf, vectorsOf}
 use Rattle.receiving.specs.Answer.{summaryOf}
-use Rattle.receiving.specs.Reasons.{Taken, takenOf}
+use Rattle.receiving.specs.Reasons.{Taken, takenBlocks}
 use Rattle.receiving.proofs.Reasons.{test, tested-of, AllOf, all-of, kind-tested}
 
 both-true : (b : Bool) → b && true ≡ b
@@ -43,12 +43,12 @@ module _ (ed : Edition) where
   -- ---- of one block, from its kind and its vector
 
   -- the vector of a tested block has the kind of the block
-  abbrev Plain : Tested → Type 0
-  Plain t = vectorKind ed (t .vector) ≡ kindIn (t .class)
+  abbrev OwnKind : Tested → Type 0
+  OwnKind t = vectorKind ed (t .vector) ≡ kindIn (t .class)
 
-  plain : (t : Taken) → t .link .edition ≡ ed → Plain (test t)
+  own-kind : (t : Taken) → t .link .edition ≡ ed → OwnKind (test t)
   unfolding testedOf
-  plain t e =
+  own-kind t e =
       ap (λ (d : Edition). vectorKind d (decoded (t .link .edition) (t .header) x)) (sym e)
       ∙ kind-of-decoded (t .link .edition) (t .header) x ∙ sym (kind-tested (t .link) (t .header) (t .payload))
     where
@@ -56,7 +56,7 @@ module _ (ed : Edition) where
       x = descrambled (t .payload) (t .link .history)
 
   -- begun: its vector is of kind S
-  begins-is : (s : State) (t : Tested) → Plain t → isS (kindIn (t .class)) && decodes s ≡ isS (vectorKind ed (answerIn s (t .vector)))
+  begins-is : (s : State) (t : Tested) → OwnKind t → isS (kindIn (t .class)) && decodes s ≡ isS (vectorKind ed (answerIn s (t .vector)))
   unfolding answerIn
   begins-is Init t p = both-false (isS (kindIn (t .class))) ∙ sym (ap isS (kind-of-fault ed))
   begins-is Control t p = both-true (isS (kindIn (t .class))) ∙ sym (ap isS p)
@@ -66,7 +66,7 @@ module _ (ed : Edition) where
   begins-is Error t p = both-false (isS (kindIn (t .class))) ∙ sym (ap isS (kind-of-error ed))
 
   -- replaced: its vector is the error vector
-  replaces-is : (s : State) (t : Tested) (e : Bool) → Plain t → errs (stateOf s t e) ≡ isErrorVector (answerIn (stateOf s t e) (t .vector))
+  replaces-is : (s : State) (t : Tested) (e : Bool) → OwnKind t → errs (stateOf s t e) ≡ isErrorVector (answerIn (stateOf s t e) (t .vector))
   unfolding stateOf answerIn
   replaces-is s t e p = on (t .on)
     where
@@ -98,25 +98,25 @@ module _ (ed : Edition) where
   begun-from s [] w = refl
   begun-from s (t ∷ ts) w =
       let s′ = stateOf s (test t) (ends (map test ts)) in
-      ap₂ (λ (b : Bool) (n : ℕ). cond b 1 0 + n) (begins-is s′ (test t) (plain t (w .0))) (begun-from s′ ts (w .1))
+      ap₂ (λ (b : Bool) (n : ℕ). cond b 1 0 + n) (begins-is s′ (test t) (own-kind t (w .0))) (begun-from s′ ts (w .1))
 
   replaced-from : (s : State) (ts : List Taken) → AllOf ed ts → howMany replaces (judge s (map test ts)) ≡ howMany isErrorVector (answers s (map test ts))
   unfolding judge answers howMany
   replaced-from s [] w = refl
   replaced-from s (t ∷ ts) w =
       let s′ = stateOf s (test t) (ends (map test ts)) in
-      ap₂ (λ (b : Bool) (n : ℕ). cond b 1 0 + n) (replaces-is s (test t) (ends (map test ts)) (plain t (w .0))) (replaced-from s′ ts (w .1))
+      ap₂ (λ (b : Bool) (n : ℕ). cond b 1 0 + n) (replaces-is s (test t) (ends (map test ts)) (own-kind t (w .0))) (replaced-from s′ ts (w .1))
 
   -- ---- of a whole line
 
   pub begun-are-starts : (line : List ℕ) → summaryOf ed line .handed .begun ≡ howMany (λ v. isS (vectorKind ed v)) (vectorsOf ed line)
   unfolding summaryOf handedOf vectorsOf
   begun-are-starts line =
-      ap (λ (ts : List Tested). howMany begins (judge Init ts)) (tested-of ed line) ∙ begun-from Init (takenOf ed line) (all-of ed line)
+      ap (λ (ts : List Tested). howMany begins (judge Init ts)) (tested-of ed line) ∙ begun-from Init (takenBlocks ed line) (all-of ed line)
       ∙ sym (ap (λ (ts : List Tested). howMany (λ v. isS (vectorKind ed v)) (answers Init ts)) (tested-of ed line))
 
   pub replaced-are-errors : (line : List ℕ) → summaryOf ed line .handed .replaced ≡ howMany isErrorVector (vectorsOf ed line)
   unfolding summaryOf handedOf vectorsOf
   replaced-are-errors line =
-      ap (λ (ts : List Tested). howMany replaces (judge Init ts)) (tested-of ed line) ∙ replaced-from Init (takenOf ed line) (all-of ed line)
+      ap (λ (ts : List Tested). howMany replaces (judge Init ts)) (tested-of ed line) ∙ replaced-from Init (takenBlocks ed line) (all-of ed line)
       ∙ sym (ap (λ (ts : List Tested). howMany isErrorVector (answers Init ts)) (tested-of ed line))

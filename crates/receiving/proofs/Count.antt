@@ -2,7 +2,7 @@
 use Prim.Native.Nat.{ℕ, suc, _+_, _*_, _/_, _≤_, _<_}
 use mathlib.Core.Path.{_≡_, refl, ap, _∙_}
 use mathlib.Core.Bool.{Bool, true, false, cond}
-use mathlib.Core.List.{List, [], _∷_, _++_, flatten}
+use mathlib.Core.List.{List, [], _∷_, flatten}
 use native.Mathlib.Omega.{arith}
 use lib.ListN.{length, length-append}
 use borrow.Author.Tests.{eqb-true, eqb-false}
@@ -13,7 +13,7 @@ use Rattle.block.specs.Block.{decoded, formatOf, valid, vectorOf, errorVector}
 use Rattle.diagrams.specs.declared.State.{State}
 use Rattle.diagrams.specs.declared.State.the-variants.{Init, Control, Data, Terminate, Error, LowPower}
 use Rattle.receiving.specs.Machine.{Feed, Tested, at, fills, feed, filled, run, testedOf, linkFresh}
-use Rattle.receiving.proofs.Each.{Each, none, more, run-gives}
+use Rattle.receiving.proofs.Each.{EachTested, none, more, run-gives}
 use Rattle.receiving.specs.Receive.{stateOf, ends, answerIn, judge, answers, runOf, vectorsOf, receivedVectors}
 
 -- ---- a block takes 66 bits
@@ -59,7 +59,7 @@ abbrev pub Ten : Tested → Type 0
 Ten t = length (t .vector) ≡ 10
 
 -- and so are those of a run
-pub tens-run : (f : Feed) (bits : List ℕ) → Each Ten (run f bits .tested)
+pub tens-run : (f : Feed) (bits : List ℕ) → EachTested Ten (run f bits .tested)
 unfolding testedOf
 tens-run f bits = run-gives (λ l. Unit) Ten (λ l h p q. tt) (λ l h p q. length-decoded (l .edition) h _) f bits tt
 
@@ -74,7 +74,7 @@ length-answer Error v e = refl
 length-answer LowPower v e = e
 
 -- ten bytes for each block
-pub length-vectors : (s : State) {ts : List Tested} → Each Ten ts → length (flatten (answers s ts)) ≡ 10 * length ts
+pub length-vectors : (s : State) {ts : List Tested} → EachTested Ten ts → length (flatten (answers s ts)) ≡ 10 * length ts
 unfolding answers judge flatten
 length-vectors s none = refl
 length-vectors s (more {t = t} {ts = ts} e r) =

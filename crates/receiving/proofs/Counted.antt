@@ -159,12 +159,6 @@ module _ (h : Handed) where
   begun-by : (b c : Bool) → b ≡ c → h .begun + cond b 1 0 ≡ h .begun + cond c 1 0
   begun-by b c e = ap {B = ℕ} (λ (z : Bool). h .begun + cond z 1 0) e
 
-  pub decoded-start : (k : Class) → isS (kindIn k) ≡ true → record { begun = h .begun + 1; replaced = h .replaced } ≡ decodedOut h k
-  decoded-start k e = λ i. record { begun = begun-by true (isS (kindIn k)) (sym e) i; replaced = h .replaced }
-
-  pub decoded-other : (k : Class) → isS (kindIn k) ≡ false → h ≡ decodedOut h k
-  decoded-other k e = λ i. record { begun = (sym (add-zero (h .begun)) ∙ begun-by false (isS (kindIn k)) (sym e)) i; replaced = h .replaced }
-
   both : (b c : Bool) → c ≡ true → b ≡ b && c
   both true c e = sym e
   both false c e = refl

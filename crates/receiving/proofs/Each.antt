@@ -10,17 +10,17 @@ use Rattle.receiving.specs.Parts.{settle}
 use Rattle.receiving.specs.declared.Link.{Link}
 
 -- each block of a list has a property
-pub data Each (P : Tested → Type 0) : List Tested → Type 0 where
-  none : Each P []
-  more : {t : Tested} {ts : List Tested} → P t → Each P ts → Each P (t ∷ ts)
+pub data EachTested (P : Tested → Type 0) : List Tested → Type 0 where
+  none : EachTested P []
+  more : {t : Tested} {ts : List Tested} → P t → EachTested P ts → EachTested P (t ∷ ts)
 
 -- joined lists
-pub each-append : {P : Tested → Type 0} {a b : List Tested} → Each P a → Each P b → Each P (a ++ b)
+pub each-append : {P : Tested → Type 0} {a b : List Tested} → EachTested P a → EachTested P b → EachTested P (a ++ b)
 each-append none q = q
 each-append (more p r) q = more p (each-append r q)
 
 -- the block that is held is one of the list
-pub each-held : {P : Tested → Type 0} (s : State) {ts : List Tested} → Each P ts → Each P (settle s ts .held)
+pub each-held : {P : Tested → Type 0} (s : State) {ts : List Tested} → EachTested P ts → EachTested P (settle s ts .held)
 unfolding settle
 each-held s none = none
 each-held s (more p none) = more p none
@@ -34,7 +34,7 @@ module _ (Q : Link → Type 0) (P : Tested → Type 0) (keeps : (l : Link) (h p 
   bit-keeps f b false true es eg q = rw (es, eg) (keeps (f .link) _ _ q)
   bit-keeps f b false false es eg q = rw (es, eg) q
 
-  bit-gives : (f : Feed) (b : ℕ) (s g : Bool) → f .skip ≡ s → fills f ≡ g → Q (f .link) → {ts : List Tested} → Each P ts → Each P (filled f b ++ ts)
+  bit-gives : (f : Feed) (b : ℕ) (s g : Bool) → f .skip ≡ s → fills f ≡ g → Q (f .link) → {ts : List Tested} → EachTested P ts → EachTested P (filled f b ++ ts)
   unfolding filled
   bit-gives f b true g es eg q {ts} r = rw es r
   bit-gives f b false true es eg q {ts} r = rw (es, eg) (more (gives (f .link) _ _ q) r)
@@ -47,7 +47,7 @@ module _ (Q : Link → Type 0) (P : Tested → Type 0) (keeps : (l : Link) (h p 
   run-keeps f (b ∷ bits) q = run-keeps (feed f b) bits (bit-keeps f b (f .skip) (fills f) refl refl q)
 
   -- and gives the other
-  pub run-gives : (f : Feed) (bits : List ℕ) → Q (f .link) → Each P (run f bits .tested)
+  pub run-gives : (f : Feed) (bits : List ℕ) → Q (f .link) → EachTested P (run f bits .tested)
   unfolding run
   run-gives f [] q = none
   run-gives f (b ∷ bits) q = bit-gives f b (f .skip) (fills f) refl refl q (run-gives (feed f b) bits (bit-keeps f b (f .skip) (fills f) refl refl q))

@@ -10,6 +10,6 @@ pub mod Counted
 pub mod Settle
 pub mod Turning
 pub mod Stretching
-pub mod Closing
 pub mod Verdict
 pub mod Cases
+pub mod Demand1

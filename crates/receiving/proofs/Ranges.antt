@@ -7,10 +7,10 @@ use lib.Dec.{leb}
 use borrow.Author.Tests.{leb-false}
 use Rattle.scrambler.proofs.Laws.{lineAfter-lt}
 use Rattle.block.specs.declared.Edition.{Edition}
-use Rattle.diagrams.specs.Lock.{lockOf, slipsOf, countedOf, invalidOf}
-use Rattle.diagrams.specs.Rate.{rateOf, windowOf}
-use Rattle.diagrams.specs.declared.Lock.{Lock}
-use Rattle.diagrams.specs.declared.Rate.{Rate}
+use Rattle.lock.specs.Lock.{lockOf, slipsOf, countedOf, invalidOf}
+use Rattle.lock.specs.Rate.{rateOf, windowOf}
+use Rattle.lock.specs.declared.Lock.{Lock}
+use Rattle.lock.specs.declared.Rate.{Rate}
 use Rattle.receiving.specs.Machine.{linkOf, validOf, linkFresh}
 use Rattle.receiving.specs.Ranges.{InRange}
 use Rattle.receiving.specs.declared.Link.{Link}
@@ -22,12 +22,12 @@ invalid-le true = omega arith
 invalid-le false = omega arith
 
 -- the ranges of the lock
-abbrev InLock : Lock → Type 0
-InLock l = (l .tested < 64) × (l .invalid < 16)
+abbrev LockInRange : Lock → Type 0
+LockInRange l = (l .tested < 64) × (l .invalid < 16)
 
 -- the ranges of the error rate
-abbrev InRate : Rate → Type 0
-InRate r = (r .blocks < 19531) × (r .invalid ≤ r .blocks)
+abbrev RateInRange : Rate → Type 0
+RateInRange r = (r .blocks < 19531) × (r .invalid ≤ r .blocks)
 
 -- by the test that a value goes by
 pub cond-both {ℓ} : {X : Type 0} (P : X → Type ℓ) (b : Bool) (x y : X) → (b ≡ true → P x) → (b ≡ false → P y) → P (cond b x y)
@@ -40,19 +40,19 @@ or-false-left true b e = e
 or-false-left false b e = refl
 
 -- a step of the lock keeps them
-lock-in : (l : Lock) (v : Bool) → InLock l → InLock (lockOf l v)
+lock-in : (l : Lock) (v : Bool) → LockInRange l → LockInRange (lockOf l v)
 unfolding lockOf slipsOf countedOf
 lock-in l v h =
-    cond-both InLock (slipsOf l v) _ _ (λ e. omega arith)
-    (λ e. cond-both InLock (leb 64 (l .tested + 1)) _ _ (λ f. omega arith)
+    cond-both LockInRange (slipsOf l v) _ _ (λ e. omega arith)
+    (λ e. cond-both LockInRange (leb 64 (l .tested + 1)) _ _ (λ f. omega arith)
     (λ f. omega (arith, leb-false 64 (l .tested + 1) f, leb-false 16 (l .invalid + invalidOf v) (or-false-left (leb 16 (l .invalid + invalidOf v)) _ e))))
 
 -- a step of the error rate keeps them
-rate-in : (r : Rate) (b a v : Bool) → InRate r → InRate (rateOf r b a v)
+rate-in : (r : Rate) (b a v : Bool) → RateInRange r → RateInRange (rateOf r b a v)
 unfolding rateOf windowOf
 rate-in r b a v h =
-    cond-both InRate (a && b) _ _
-    (λ e. cond-both InRate (leb 19531 (r .blocks + 1)) _ _ (λ f. omega arith) (λ f. omega (arith, leb-false 19531 (r .blocks + 1) f, invalid-le v)))
+    cond-both RateInRange (a && b) _ _
+    (λ e. cond-both RateInRange (leb 19531 (r .blocks + 1)) _ _ (λ f. omega arith) (λ f. omega (arith, leb-false 19531 (r .blocks + 1) f, invalid-le v)))
     (λ e. omega arith)
 
 -- a fresh link is in range

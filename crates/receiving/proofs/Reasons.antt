@@ -21,7 +21,7 @@ use Rattle.receiving.specs.Machine.{Tested, Feed, at, headerOf, payloadO
 use Rattle.receiving.specs.Receive.{letsEnd, ends, stateOf, answerIn, judge, answers, howMany, badFor, countsOf, runOf, vectorsOf}
 use Rattle.receiving.specs.Answer.{summaryOf}
 use Rattle.receiving.specs.declared.Link.{Link}
-use Rattle.receiving.specs.Reasons.{Taken, takenAt, takenFrom, takenOf, takenKind, takenVector, takenOn, badBlocks, endsByKind, stateByKind, answersByKind}
+use Rattle.receiving.specs.Reasons.{Taken, takenAt, takenFrom, takenBlocks, takenKind, takenVector, takenOn, badBlocks, endsByKind, stateByKind, answersByKind}
 
 -- ---- the blocks that are tested are those that were taken
 
@@ -48,8 +48,8 @@ unfolding run takenFrom
 tested-from f [] = refl
 tested-from f (b ∷ bits) = ap₂ _++_ (tested-at f b) (tested-from (feed f b) bits) ∙ sym (map-append (takenAt f b) (takenFrom (feed f b) bits))
 
-pub tested-of : (ed : Edition) (line : List ℕ) → runOf ed line .tested ≡ map test (takenOf ed line)
-unfolding runOf takenOf
+pub tested-of : (ed : Edition) (line : List ℕ) → runOf ed line .tested ≡ map test (takenBlocks ed line)
+unfolding runOf takenBlocks
 tested-of ed line = tested-from (at (linkFresh ed)) (lineBits line)
 
 -- a receiver keeps its edition
@@ -79,8 +79,8 @@ unfolding takenFrom
 all-from ed f [] e = tt
 all-from ed f (b ∷ bits) e = one-of ed f b (takenFrom (feed f b) bits) e (all-from ed (feed f b) bits (keeps f b ∙ e))
 
-pub all-of : (ed : Edition) (line : List ℕ) → AllOf ed (takenOf ed line)
-unfolding takenOf
+pub all-of : (ed : Edition) (line : List ℕ) → AllOf ed (takenBlocks ed line)
+unfolding takenBlocks
 all-of ed line = all-from ed (at (linkFresh ed)) (lineBits line) refl
 
 -- the kind of a tested block's class is that of document 01
@@ -109,9 +109,9 @@ bad-are (t ∷ ts) =
     omega (arith, one-reason (test t .class) ∙ ap (λ (k : Kind). cond (isError k) 1 0) (kind-tested (t .link) (t .header) (t .payload)), bad-are ts)
 
 -- of a whole line: they are its tested blocks of kind E
-pub reasons-are-errors : (ed : Edition) (line : List ℕ) → badBlocks (summaryOf ed line .counts) ≡ howMany (λ t. isError (takenKind t)) (takenOf ed line)
+pub reasons-are-errors : (ed : Edition) (line : List ℕ) → badBlocks (summaryOf ed line .counts) ≡ howMany (λ t. isError (takenKind t)) (takenBlocks ed line)
 unfolding summaryOf
-reasons-are-errors ed line = ap (λ (ts : List Tested). badBlocks (countsOf ts)) (tested-of ed line) ∙ bad-are (takenOf ed line)
+reasons-are-errors ed line = ap (λ (ts : List Tested). badBlocks (countsOf ts)) (tested-of ed line) ∙ bad-are (takenBlocks ed line)
 
 -- ---- the vectors by document 01's kinds alone
 
@@ -134,6 +134,6 @@ answers-same s (t ∷ ts) =
     ∙ ap (λ (vs : List (List ℕ)). answerIn (stateByKind s t (endsByKind ts)) (takenVector t) ∷ vs) (answers-same (stateByKind s t (endsByKind ts)) ts)
 
 -- of a whole line
-pub vectors-stay : (ed : Edition) (line : List ℕ) → vectorsOf ed line ≡ answersByKind Init (takenOf ed line)
+pub vectors-stay : (ed : Edition) (line : List ℕ) → vectorsOf ed line ≡ answersByKind Init (takenBlocks ed line)
 unfolding vectorsOf
-vectors-stay ed line = ap (answers Init) (tested-of ed line) ∙ answers-same Init (takenOf ed line)
+vectors-stay ed line = ap (answers Init) (tested-of ed line) ∙ answers-same Init (takenBlocks ed line)

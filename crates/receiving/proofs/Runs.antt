@@ -11,11 +11,11 @@ use Rattle.receiving.specs.Machine.{Feed, Run, Tested, at, afterBlock, t
 use Rattle.receiving.specs.declared.Link.{Link}
 
 -- a run with blocks tested before it
-abbrev pub after : List Tested → Run → Run
-after ts r = record { tested = ts ++ r .tested; end = r .end }
+abbrev pub runBehind : List Tested → Run → Run
+runBehind ts r = record { tested = ts ++ r .tested; end = r .end }
 
 -- cutting the line anywhere
-pub run-append : (f : Feed) (a b : List ℕ) → run f (a ++ b) ≡ after (run f a .tested) (run (run f a .end) b)
+pub run-append : (f : Feed) (a b : List ℕ) → run f (a ++ b) ≡ runBehind (run f a .tested) (run (run f a .end) b)
 unfolding run
 run-append f [] b = refl
 run-append f (x ∷ a) b = rw (run-append (feed f x) a b, append-assoc)
@@ -26,7 +26,7 @@ waiting l bits = record { bits = bits; skip = false; link = l }
 
 -- bits that fill a block
 pub run-fill : (l : Link) (c xs rest : List ℕ) → length c + length xs ≡ 66 → 0 < length xs
-    → run (waiting l c) (xs ++ rest) ≡ after (testedBlock l (c ++ xs) ∷ []) (run (afterBlock l (c ++ xs)) rest)
+    → run (waiting l c) (xs ++ rest) ≡ runBehind (testedBlock l (c ++ xs) ∷ []) (run (afterBlock l (c ++ xs)) rest)
 unfolding run feed filled
 run-fill l c [] rest e h = absurd (omega arith)
 run-fill l c (x ∷ []) rest e h = rw (eq-eqb (length c) 65 (omega arith))
@@ -44,7 +44,7 @@ run-short l c (x ∷ xs) h =
 
 -- so they wait with those before them
 pub run-wait : (l : Link) (c xs rest : List ℕ) → length c + length xs < 66 → run (waiting l c) (xs ++ rest) ≡ run (waiting l (c ++ xs)) rest
-run-wait l c xs rest h = run-append (waiting l c) xs rest ∙ ap (λ (r : Run). after (r .tested) (run (r .end) rest)) (run-short l c xs h)
+run-wait l c xs rest h = run-append (waiting l c) xs rest ∙ ap (λ (r : Run). runBehind (r .tested) (run (r .end) rest)) (run-short l c xs h)
 
 -- one bit that is skipped
 pub run-skip : (l : Link) (c : List ℕ) (x : ℕ) (rest : List ℕ) → run (record { bits = c; skip = true; link = l }) (x ∷ rest) ≡ run (at l) rest

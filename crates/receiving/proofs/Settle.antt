@@ -4,8 +4,7 @@ use mathlib.Core.Path.{_≡_, refl, sym, ap, ap₂, _∙_}
 use mathlib.Core.Bool.{Bool, true, false, cond, true≢false}
 use mathlib.Core.List.{List, [], _∷_, _++_, append-assoc, append-nil, flatten}
 use native.Mathlib.Omega.{arith}
-use native.Mathlib.Nat.{add-zero}
-use lib.ListN.{length, take, drop, length-append, length-drop, take-append-drop}
+use lib.ListN.{length, take, drop, length-append, length-drop}
 use lib.Seq.{take-at, drop-at, length-take-le}
 use Rattle.decoding.specs.Vector.{vectorBytes}
 use Rattle.decoding.specs.declared.Vector.{Vector}
@@ -18,7 +17,7 @@ use Rattle.receiving.specs.Loop.{testedIn, heldState, heldBytes, heldHan
 use Rattle.receiving.specs.Counted.{handOut, HandedWithin}
 use Rattle.receiving.specs.declared.Held.{Held}
 use Rattle.receiving.specs.declared.Handed.{Handed}
-use Rattle.receiving.proofs.Each.{Each, none, more}
+use Rattle.receiving.proofs.Each.{EachTested, none, more}
 use Rattle.receiving.proofs.Count.{Ten, length-answer}
 use Rattle.receiving.proofs.Counted.{hand-more, hand-end, handed-next, handed-wide}
 
@@ -87,13 +86,6 @@ held-put have s h e room room′ at n n′ s′ v eh es ev er en =
       er ∙ sym (ap₂ (λ (x : List ℕ) (k : ℕ). take at room ++ (x ++ drop (at + k) room)) b l),
       en ∙ ap (λ (z : State). handOut n (record { state = z; block = testedIn h })) es ∙ sym (ap (λ (z : Bool). heldHanded z n s h e) eh),
     )
-
--- where none is held, nothing changes
-pub none-put : (have : Bool) (s : State) (h : Held) (e : Bool) (room : List ℕ) (at : ℕ) (n : Handed) → have ≡ false
-    → (s ≡ heldState have s h e) × (at ≡ at + length (heldBytes have s h e))
-    × (room ≡ take at room ++ (heldBytes have s h e ++ drop (at + length (heldBytes have s h e)) room))
-    × (n ≡ heldHanded have n s h e)
-none-put have s h e room at n eh = (rw eh, rw eh (sym (add-zero at)), rw (eh, add-zero) (sym (take-append-drop at room)), rw eh)
 
 -- it adds at most one to each count
 pub held-within : (have : Bool) (n : Handed) (s : State) (h : Held) (e : Bool) (m k : ℕ) → HandedWithin m n → m < k → HandedWithin k (heldHanded have n s h e)
@@ -181,7 +173,7 @@ settle-few s (t ∷ []) = omega arith
 settle-few s (t ∷ u ∷ ts) = settle-few (stateOf s t (letsEnd u)) (u ∷ ts)
 
 -- the bytes of what is settled, ten for each block
-pub settle-tens : (s : State) {ts : List Tested} → Each Ten ts → length (bytesOf (settle s ts .judged)) ≡ 10 * length (settle s ts .judged)
+pub settle-tens : (s : State) {ts : List Tested} → EachTested Ten ts → length (bytesOf (settle s ts .judged)) ≡ 10 * length (settle s ts .judged)
 unfolding settle flatten
 settle-tens s none = refl
 settle-tens s (more e none) = refl
@@ -197,7 +189,7 @@ judge-length s [] = refl
 judge-length s (t ∷ ts) = ap suc (judge-length (stateOf s t (ends ts)) ts)
 
 -- and their bytes, ten for each
-pub judge-tens : (s : State) {ts : List Tested} → Each Ten ts → length (bytesOf (judge s ts)) ≡ 10 * length (judge s ts)
+pub judge-tens : (s : State) {ts : List Tested} → EachTested Ten ts → length (bytesOf (judge s ts)) ≡ 10 * length (judge s ts)
 unfolding judge flatten
 judge-tens s none = refl
 judge-tens s (more {t} {ts} e r) =

@@ -1,29 +1,16 @@
 -- "The count of tested headers equals the number of lock steps in the definition." Assumes nothing.
 use mathlib.Core.Path.{_≡_, refl, sym, ap, ap₂, _∙_}
-use mathlib.Core.Bool.{Bool, true, false, cond}
+use mathlib.Core.Bool.{Bool, true, false}
 use mathlib.Core.List.{List, [], _∷_, _++_}
 use Prim.Native.Nat.{ℕ, _+_}
 use lib.ListN.{length, length-append}
 use Rattle.bits.specs.Bits.{lineBits}
 use Rattle.block.specs.declared.Edition.{Edition}
-use Rattle.diagrams.specs.Lock.{lockFresh, lockOf}
-use Rattle.diagrams.specs.declared.Lock.{Lock}
-use Rattle.receiving.specs.Machine.{Feed, at, fills, feed, filled, run, linkOf, linkFresh, headerOf, validOf}
+use Rattle.lock.specs.Lock.{lockFresh, lockOf, lockSteps}
+use Rattle.lock.specs.declared.Lock.{Lock}
+use Rattle.receiving.specs.Machine.{Feed, at, fills, feed, filled, run, linkOf, linkFresh}
+use Rattle.receiving.specs.Steps.{validHeader, validHeaders}
 use Rattle.receiving.specs.Receive.{runOf}
-
--- the headers that a run tests, in order, each by whether it is valid
-unfoldable pub validHeader : Feed → ℕ → List Bool
-validHeader f b = cond (f .skip) [] (cond (fills f) (validOf (headerOf (f .bits ++ b ∷ [])) ∷ []) [])
-
--- over all bits
-unfoldable pub validHeaders : Feed → List ℕ → List Bool
-validHeaders f [] = []
-validHeaders f (b ∷ bits) = validHeader f b ++ validHeaders (feed f b) bits
-
--- the lock's step, taken once for each header of a list
-unfoldable pub lockSteps : Lock → List Bool → Lock
-lockSteps l [] = l
-lockSteps l (v ∷ vs) = lockSteps (lockOf l v) vs
 
 -- steps over joined lists
 steps-append : (l : Lock) (a b : List Bool) → lockSteps l (a ++ b) ≡ lockSteps (lockSteps l a) b

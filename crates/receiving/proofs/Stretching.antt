@@ -14,7 +14,6 @@ use Rattle.carrying.specs.declared.Taken.{Taken}
 use Rattle.carrying.proofs.Laws.{takes-whole}
 use Rattle.receiving.specs.Loop.{Under, Turns, Stretches}
 use Rattle.receiving.specs.declared.Progress.{Progress}
-use Rattle.receiving.proofs.Turning.{Looping}
 
 -- what follows from false being true
 pub never {ℓ} : {P : Type ℓ} → _≡_ {A = Bool} false true → P
@@ -23,8 +22,8 @@ never e = absurd (false≢true e)
 -- ---- a whole block, where nothing is carried
 
 -- what is taken from the line
-abbrev pub whole : Progress → (header payload : ℕ) → Taken
-whole p header payload = record { full = true; header = header; payload = payload; carried = p .receiver .carried; next = p .pos + 66 }
+abbrev pub wholeBlock : Progress → (header payload : ℕ) → Taken
+wholeBlock p header payload = record { full = true; header = header; payload = payload; carried = p .receiver .carried; next = p .pos + 66 }
 
 -- nothing is carried: no bit is set
 pub carried-none : (c : Carried) → Sound c → c .count ≡ 0 → (c .count ≡ 0) × (c .header ≡ 0) × (c .payload ≡ 0)
@@ -34,11 +33,11 @@ carried-none c s none =
 
 pub whole-taken : (line : List ℕ) (p : Progress) (header payload : ℕ) → Sound (p .receiver .carried) → p .receiver .skip ≡ false → p .receiver .carried .count ≡ 0
     → p .pos + 66 ≤ 8 * length line → header ≡ headerAt line (p .pos) → payload ≡ payloadAt line (p .pos)
-    → Takes (lineBits line) (p .pos) (p .receiver .skip) (p .receiver .carried) (whole p header payload)
+    → Takes (lineBits line) (p .pos) (p .receiver .skip) (p .receiver .carried) (wholeBlock p header payload)
 whole-taken line p header payload s skip none here eh ep =
     let c = p .receiver .carried in
-    subst (λ (b : Bool). Takes (lineBits line) (p .pos) b c (whole p header payload)) (sym skip)
-    (takes-whole line (p .pos) c (omega (arith, here)) (whole p header payload) none here refl (carried-none c s none) refl eh ep)
+    subst (λ (b : Bool). Takes (lineBits line) (p .pos) b c (wholeBlock p header payload)) (sym skip)
+    (takes-whole line (p .pos) c (omega (arith, here)) (wholeBlock p header payload) none here refl (carried-none c s none) refl eh ep)
 
 -- ---- stretches
 
@@ -82,17 +81,3 @@ stretch-more line r₀ r₁ r₂ p q t a b =
 pub stretch-turn : (line room room′ : List ℕ) (p p′ : Progress) → Turns line room room′ p p′ → p′ .pos < 8 * length line → Stretches line room room′ p p′
 stretch-turn line room room′ p p′ t e =
     record { under = t .under; same = t .same; past = omega (arith, t .past); ends = e; grows = t .grows; rest = t .rest; len = t .len }
-
--- a stretch in the receiving loop
-pub loop-stretch : (line room₀ room room′ : List ℕ) (p₀ p p′ : Progress) → Looping line room₀ room p₀ p → Stretches line room room′ p p′
-    → Looping line room₀ room′ p₀ p′
-loop-stretch line room₀ room room′ p₀ p p′ i t =
-    let n : p′ .at ≡ p .at + (p′ .at - p .at) = omega (arith, t .grows) in
-    record {
-      under = t .under;
-      same = t .same ∙ i .same;
-      rest =
-          t .rest ∙ ap (λ (j : ℕ). drop j room) n ∙ sym (drop-drop (p′ .at - p .at) (p .at) room)
-          ∙ ap (drop (p′ .at - p .at)) (i .rest) ∙ drop-drop (p′ .at - p .at) (p .at) room₀ ∙ sym (ap (λ (j : ℕ). drop j room₀) n);
-      len = t .len ∙ i .len;
-    }

@@ -1,36 +1,35 @@
--- One turn of the receiving loop, and its end. What is written and counted so far, with what the definition still gives from here, is
--- what it gives of the whole line. Assumes nothing.
+-- One turn of a receiver. What is written and counted so far, with what the definition still gives from here, is what it gives of the
+-- whole line. Assumes nothing.
 use Prim.Native.Nat.{ℕ, suc, _+_, _-_, _*_, _≤_, _<_}
 use mathlib.Core.Path.{_≡_, refl, sym, ap, ap₂, _∙_, subst}
 use mathlib.Core.Bool.{Bool, true, false, cond}
-use mathlib.Core.List.{List, [], _∷_, _++_, append-assoc, append-nil, flatten}
+use mathlib.Core.List.{List, [], _∷_, _++_, append-assoc}
 use native.Mathlib.Omega.{arith}
 use native.Mathlib.Numerals.{add-one}
-use lib.ListN.{length, getD, take, drop, length-append, take-append-drop, drop-of-length-le}
+use lib.ListN.{length, getD, take, drop, length-append, take-append-drop}
 use lib.Seq.{drop-drop, drop-cons, length-take-le}
 use Rattle.bits.specs.Bits.{lineBits}
 use Rattle.bits.proofs.Lists.{length-lineBits}
-use Rattle.carrying.specs.Carrying.{carriedBits, Sound, Takes}
+use Rattle.carrying.specs.Carrying.{carriedBits, Takes}
 use Rattle.carrying.specs.declared.Taken.{Taken}
 use Rattle.carrying.proofs.Laws.{length-carried}
-use Rattle.diagrams.specs.Lock.{slipsOf}
+use Rattle.lock.specs.Lock.{slipsOf}
 use Rattle.diagrams.specs.declared.State.{State}
 use Rattle.receiving.specs.Machine.{Feed, Run, Tested, run, linkOf, testedOf, validOf, headerOf, payloadOf}
 use Rattle.receiving.specs.Receive.{letsEnd, countsOf, handedOf}
-use Rattle.receiving.specs.Parts.{noCounts, plus, noneHanded, plusHanded, settle, bytesOf}
+use Rattle.receiving.specs.Parts.{plus, plusHanded, settle, bytesOf}
 use Rattle.receiving.specs.Counted.{counted, Within, HandedWithin}
 use Rattle.receiving.specs.Ranges.{InRange}
-use Rattle.receiving.specs.Loop.{testedIn, heldIn, feedIn, Outcome, outcomeOf, outcome, Under, Turns, Ends, written, heldState, heldBytes, heldHanded}
+use Rattle.receiving.specs.Loop.{testedIn, heldIn, feedIn, Upshot, upshotOf, upshot, Under, Turns, heldState, heldBytes, heldHanded}
 use Rattle.receiving.specs.declared.Link.{Link}
 use Rattle.receiving.specs.declared.Held.{Held}
 use Rattle.receiving.specs.declared.Counts.{Counts}
 use Rattle.receiving.specs.declared.Handed.{Handed}
-use Rattle.receiving.specs.declared.Receiver.{Receiver}
 use Rattle.receiving.specs.declared.Progress.{Progress}
-use Rattle.receiving.proofs.Runs.{after, run-fill, run-skip, run-wait}
+use Rattle.receiving.proofs.Runs.{runBehind, run-fill, run-skip, run-wait}
 use Rattle.receiving.proofs.Ranges.{range-next}
-use Rattle.receiving.proofs.Counted.{count-more, count-end, count-first, within-none, within-next, within-wide, hand-end, hand-first, handed-none, handed-wide}
-use Rattle.receiving.proofs.Settle.{put-take, put-drop, put-length, held-within, settle-bytes, settle-handed, settle-state, settle-held, settle-last}
+use Rattle.receiving.proofs.Counted.{count-more, within-next, within-wide, handed-wide}
+use Rattle.receiving.proofs.Settle.{put-take, put-drop, put-length, held-within, settle-bytes, settle-handed, settle-state, settle-held}
 
 -- ---- the run from here, by what is taken
 
@@ -62,7 +61,7 @@ pub fill-run : (B : List ℕ) (pos next : ℕ) (c : List ℕ) (l : Link) (h q : 
     → h ≡ headerOf (c ++ take (next - pos) (drop pos B))
     → q ≡ payloadOf (c ++ take (next - pos) (drop pos B))
     → run (feedOf c false l) (drop pos B)
-    ≡ after (testedOf l h q ∷ []) (run (feedOf [] (slipsOf (l .lock) (validOf h)) (linkOf l h q)) (drop next B))
+    ≡ runBehind (testedOf l h q ∷ []) (run (feedOf [] (slipsOf (l .lock) (validOf h)) (linkOf l h q)) (drop next B))
 unfolding feedOf
 fill-run B pos next c l h q past few whole eh eq =
     let X = drop pos B in
@@ -71,10 +70,10 @@ fill-run B pos next c l h q past few whole eh eq =
     let len : length c + length (take (next - pos) (drop pos B)) ≡ 66 = sym (length-append c (take n X)) ∙ whole in
     ap (run (feedOf c false l)) (sym (take-append-drop n X))
     ∙ run-fill l c (take n X) (drop n X) len (omega arith)
-    ∙ ap (λ (z : List ℕ). after (testedOf l (headerOf (c ++ take n X)) (payloadOf (c ++ take n X)) ∷ []) (run (feedOf [] (slipsOf (l .lock) (validOf (headerOf (c ++ take n X)))) (linkOf l (headerOf (c ++ take n X)) (payloadOf (c ++ take n X)))) z))
+    ∙ ap (λ (z : List ℕ). runBehind (testedOf l (headerOf (c ++ take n X)) (payloadOf (c ++ take n X)) ∷ []) (run (feedOf [] (slipsOf (l .lock) (validOf (headerOf (c ++ take n X)))) (linkOf l (headerOf (c ++ take n X)) (payloadOf (c ++ take n X)))) z))
     (drop-drop n pos B ∙ ap (λ (k : ℕ). drop k B) e)
     ∙ sym
-    (ap₂ (λ (a b : ℕ). after (testedOf l a b ∷ []) (run (feedOf [] (slipsOf (l .lock) (validOf a)) (linkOf l a b)) (drop next B))) eh eq)
+    (ap₂ (λ (a b : ℕ). runBehind (testedOf l a b ∷ []) (run (feedOf [] (slipsOf (l .lock) (validOf a)) (linkOf l a b)) (drop next B))) eh eq)
 
 -- ---- a turn that tests no block
 
@@ -100,13 +99,13 @@ waited p t =
 module _ (line room : List ℕ) (p : Progress) (u : Under line room p) (here : p .pos < 8 * length line) (t : Taken)
     (k : Takes (lineBits line) (p .pos) (p .receiver .skip) (p .receiver .carried) t) where
   -- nothing changes in what comes of it
-  waited-same : t .full ≡ false → outcome line room (waited p t) ≡ outcome line room p
-  unfolding outcome heldIn feedIn feedOf
+  waited-same : t .full ≡ false → upshot line room (waited p t) ≡ upshot line room p
+  unfolding upshot heldIn feedIn feedOf
   waited-same idle =
       let w = k .waits idle in
       let r = p .receiver in
       let few : length (carriedBits (t .carried)) < 66 = rw length-carried (k .sound .few) in
-      ap (outcomeOf (take (p .at) room) (r .state) (heldIn r) (p .counts) (p .handed))
+      ap (upshotOf (take (p .at) room) (r .state) (heldIn r) (p .counts) (p .handed))
       (sym
       (wait-run (lineBits line) (p .pos) (t .next) (r .skip) (carriedBits (r .carried)) (carriedBits (t .carried)) (r .link) (omega (arith, length-lineBits line))
       (k .past) (w .one) (w .carried) few))
@@ -121,7 +120,7 @@ module _ (line room : List ℕ) (p : Progress) (u : Under line room p) (here : p
               sound = k .sound;
               pos = omega (arith, k .within, length-lineBits line);
               at = u .at;
-              fits = subst (λ (o : Outcome). length (o .bytes) ≤ length room) (sym (waited-same idle)) (u .fits);
+              fits = subst (λ (o : Upshot). length (o .bytes) ≤ length room) (sym (waited-same idle)) (u .fits);
               counts = within-wide (p .counts) (p .pos) (t .next) (u .counts) (omega (arith, k .past));
               handed = handed-wide (p .handed) (p .pos) (t .next) (u .handed) (omega (arith, k .past));
             };
@@ -145,11 +144,11 @@ moved p t link h s at c n =
       handed = n;
     }
 
--- outcomes with equal parts
-pub outcome-same : (b b′ : List ℕ) (s s′ : State) (h h′ : List Tested) (c c′ : Counts) (n n′ : Handed) (e : Feed) → b ≡ b′ → s ≡ s′ → h ≡ h′ → c ≡ c′ → n ≡ n′
-    → _≡_ {A = Outcome} (record { bytes = b; state = s; held = h; counts = c; handed = n; end = e })
+-- upshots with equal parts
+pub upshot-same : (b b′ : List ℕ) (s s′ : State) (h h′ : List Tested) (c c′ : Counts) (n n′ : Handed) (e : Feed) → b ≡ b′ → s ≡ s′ → h ≡ h′ → c ≡ c′ → n ≡ n′
+    → _≡_ {A = Upshot} (record { bytes = b; state = s; held = h; counts = c; handed = n; end = e })
     (record { bytes = b′; state = s′; held = h′; counts = c′; handed = n′; end = e })
-outcome-same b b′ s s′ h h′ c c′ n n′ e p q r u v = rw (p, q, r, u, v)
+upshot-same b b′ s s′ h h′ c c′ n n′ e p q r u v = rw (p, q, r, u, v)
 
 module _ (line room : List ℕ) (p : Progress) (u : Under line room p) (t : Taken)
     (k : Takes (lineBits line) (p .pos) (p .receiver .skip) (p .receiver .carried) t) (full : t .full ≡ true) (link : Link) (h : Held)
@@ -165,7 +164,7 @@ module _ (line room : List ℕ) (p : Progress) (u : Under line room p) (t : Take
   slipped-is = ap (λ (x : Tested). x .slipped) eh
 
   -- the run from here: this block, and what is left
-  block-run : run (feedIn (p .receiver)) (drop (p .pos) (lineBits line)) ≡ after (testedIn h ∷ []) left
+  block-run : run (feedIn (p .receiver)) (drop (p .pos) (lineBits line)) ≡ runBehind (testedIn h ∷ []) left
   unfolding feedIn feedOf left
   block-run =
       let f = k .fills full in
@@ -184,8 +183,8 @@ module _ (line room : List ℕ) (p : Progress) (u : Under line room p) (t : Take
   after-held = heldState (p .receiver .have) (p .receiver .state) (p .receiver .held) (letsEnd (testedIn h))
 
   -- what is still to be written starts with them
-  bytes-are : outcome line room p .bytes ≡ take (p .at) room ++ (bytes ++ bytesOf (settle after-held (testedIn h ∷ left .tested) .judged))
-  unfolding outcome heldIn
+  bytes-are : upshot line room p .bytes ≡ take (p .at) room ++ (bytes ++ bytesOf (settle after-held (testedIn h ∷ left .tested) .judged))
+  unfolding upshot heldIn
   bytes-are =
       ap (λ (r : Run). take (p .at) room ++ bytesOf (settle (p .receiver .state) (heldIn (p .receiver) ++ r .tested) .judged)) block-run
       ∙ ap (λ (l : List ℕ). take (p .at) room ++ l)
@@ -205,13 +204,13 @@ module _ (line room : List ℕ) (p : Progress) (u : Under line room p) (t : Take
     taken-is = ap₂ take ea er ∙ put-take room bytes (p .at) held-fits
 
     -- nothing changes in what comes of it
-    moved-same : outcome line room′ (moved p t link h s at c n) ≡ outcome line room p
-    unfolding outcome heldIn feedIn feedOf left
+    moved-same : upshot line room′ (moved p t link h s at c n) ≡ upshot line room p
+    unfolding upshot heldIn feedIn feedOf left
     moved-same =
         let r = p .receiver in
         let ts = left .tested in
         let later = bytesOf (settle after-held (testedIn h ∷ ts) .judged) in
-        outcome-same _ _ _ _ _ _ _ _ _ _ (left .end)
+        upshot-same _ _ _ _ _ _ _ _ _ _ (left .end)
         (ap₂ (λ (x : List ℕ) (z : State). x ++ bytesOf (settle z (testedIn h ∷ ts) .judged)) taken-is es
         ∙ append-assoc (take (p .at) room) bytes later
         ∙ ap (λ (l : List ℕ). take (p .at) room ++ l) (sym (settle-bytes (r .state) (r .held) (testedIn h) ts (r .have))))
@@ -220,7 +219,7 @@ module _ (line room : List ℕ) (p : Progress) (u : Under line room p) (t : Take
         (ap (λ (z : Counts). plus z (countsOf ts)) ec ∙ count-more (p .counts) (testedIn h) ts)
         (ap₂ (λ (z : Handed) (x : State). plusHanded z (handedOf (settle x (testedIn h ∷ ts) .judged))) en es
         ∙ settle-handed (r .state) (r .held) (testedIn h) ts (p .handed) (r .have))
-        ∙ sym (ap (outcomeOf (take (p .at) room) (r .state) (heldIn r) (p .counts) (p .handed)) block-run)
+        ∙ sym (ap (upshotOf (take (p .at) room) (r .state) (heldIn r) (p .counts) (p .handed)) block-run)
 
     -- the room is as long as it was
     len-is : length room′ ≡ length room
@@ -236,7 +235,7 @@ module _ (line room : List ℕ) (p : Progress) (u : Under line room p) (t : Take
                 sound = k .sound;
                 pos = omega (arith, k .within, length-lineBits line);
                 at = omega (arith, ea, held-fits, len-is);
-                fits = omega (arith, len-is, ap (λ (o : Outcome). length (o .bytes)) moved-same, u .fits);
+                fits = omega (arith, len-is, ap (λ (o : Upshot). length (o .bytes)) moved-same, u .fits);
                 counts = subst (Within (t .next)) (sym ec) (within-next (p .counts) (testedIn h) (p .pos) (t .next) (u .counts) (k .past));
                 handed = subst (HandedWithin (t .next)) (sym en) (held-within (p .receiver .have) (p .handed) (p .receiver .state) (p .receiver .held) (letsEnd (testedIn h)) (p .pos) (t .next) (u .handed) (k .past));
               };
@@ -246,72 +245,3 @@ module _ (line room : List ℕ) (p : Progress) (u : Under line room p) (t : Take
           rest = ap₂ drop ea er ∙ put-drop room bytes (p .at) held-fits ∙ ap (λ (i : ℕ). drop i room) (sym ea);
           len = len-is;
         }
-
--- ---- the loop
-
--- what holds at each turn, from the room and the receiver at the start
-pub record Looping (line room₀ room : List ℕ) (p₀ p : Progress) : Type 0 where
-  pub under : Under line room p
-  pub same : outcome line room p ≡ outcome line room₀ p₀
-  pub rest : drop (p .at) room ≡ drop (p .at) room₀
-  pub len : length room ≡ length room₀
-
--- a receiver at the first bit of the line
-abbrev pub begun : Receiver → Progress
-begun r = record { receiver = r; pos = 0; at = 0; counts = noCounts; handed = noneHanded }
-
--- it holds at the first turn
-pub loop-first : (line room : List ℕ) (r : Receiver) → InRange (r .link) → Sound (r .carried) → length (written r line) ≤ length room
-    → Looping line room room (begun r) (begun r)
-unfolding outcome
-loop-first line room r g s f =
-    record {
-      under =
-          record { range = g; sound = s; pos = omega arith; at = omega arith; fits = f; counts = within-none 0; handed = handed-none 0 };
-      same = refl;
-      rest = refl;
-      len = refl;
-    }
-
--- a turn keeps it
-pub loop-next : (line room₀ room room′ : List ℕ) (p₀ p p′ : Progress) → Looping line room₀ room p₀ p → Turns line room room′ p p′
-    → Looping line room₀ room′ p₀ p′
-loop-next line room₀ room room′ p₀ p p′ i t =
-    let n : p′ .at ≡ p .at + (p′ .at - p .at) = omega (arith, t .grows) in
-    record {
-      under = t .under;
-      same = t .same ∙ i .same;
-      rest =
-          t .rest ∙ ap (λ (j : ℕ). drop j room) n ∙ sym (drop-drop (p′ .at - p .at) (p .at) room)
-          ∙ ap (drop (p′ .at - p .at)) (i .rest) ∙ drop-drop (p′ .at - p .at) (p .at) room₀ ∙ sym (ap (λ (j : ℕ). drop j room₀) n);
-      len = t .len ∙ i .len;
-    }
-
--- no bit is left
-ended : (line room : List ℕ) (p : Progress) → 8 * length line ≤ p .pos
-    → outcome line room p
-    ≡ record { bytes = take (p .at) room ++ []; state = p .receiver .state; held = heldIn (p .receiver); counts = p .counts; handed = p .handed; end = feedIn (p .receiver) }
-unfolding outcome heldIn run flatten
-ended line room p over =
-    rw (drop-of-length-le (lineBits line) {i = p .pos} (omega (arith, length-lineBits line)), settle-last (p .receiver .have) (p .receiver .state) (p .receiver .held), count-end (p .counts), hand-end (p .handed))
-
--- so at the end everything is settled
-pub loop-ends : (line room₀ room : List ℕ) (r : Receiver) (p : Progress) → Looping line room₀ room (begun r) p → 8 * length line ≤ p .pos
-    → Ends line room₀ room r p
-unfolding outcome
-loop-ends line room₀ room r p i over =
-    let e = sym (ended line room p over) ∙ i .same in
-    record {
-      range = i .under .range;
-      sound = i .under .sound;
-      feed = ap (λ (o : Outcome). o .end) e;
-      state = ap (λ (o : Outcome). o .state) e;
-      held = ap (λ (o : Outcome). o .held) e;
-      bytes = sym (append-nil (take (p .at) room)) ∙ ap (λ (o : Outcome). o .bytes) e;
-      at = omega (arith, i .under .at, i .len);
-      rest = i .rest;
-      len = i .len;
-      counts = ap (λ (o : Outcome). o .counts) e ∙ count-first (countsOf (run (feedIn r) (lineBits line) .tested));
-      handed = ap (λ (o : Outcome). o .handed) e ∙ hand-first (handedOf (settle (r .state) (heldIn r ++ run (feedIn r) (lineBits line) .tested) .judged));
-      few = handed-wide (p .handed) (p .pos) (8 * length line) (i .under .handed) (i .under .pos);
-    }

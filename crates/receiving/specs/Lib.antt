@@ -4,6 +4,8 @@ pub mod Parts
 pub mod Answer
 pub mod Reasons
 pub mod Last
+pub mod Steps
 pub mod Ranges
 pub mod Counted
 pub mod Loop
+pub mod Demand1

@@ -46,7 +46,7 @@ pub record Fresh (ed : Edition) (r : Receiver) : Type 0 where
 -- ---- what a receiver comes to at the end of the line, from where it is
 
 -- the bytes in the room, the state, the block held, the counts of blocks and vectors, and where the receiver then stands
-pub record Outcome : Type 0 where
+pub record Upshot : Type 0 where
   pub bytes : List ℕ
   pub state : State
   pub held : List Tested
@@ -55,8 +55,8 @@ pub record Outcome : Type 0 where
   pub end : Feed
 
 -- from what is still to be run over
-abbrev pub outcomeOf : List ℕ → State → List Tested → Counts → Handed → Run → Outcome
-outcomeOf written s held c h r =
+abbrev pub upshotOf : List ℕ → State → List Tested → Counts → Handed → Run → Upshot
+upshotOf written s held c h r =
     record {
       bytes = written ++ bytesOf (settle s (held ++ r .tested) .judged);
       state = settle s (held ++ r .tested) .state;
@@ -67,9 +67,9 @@ outcomeOf written s held c h r =
     }
 
 -- from the progress of a receiver
-unfoldable pub outcome : (line room : List ℕ) → Progress → Outcome
-outcome line room p =
-    outcomeOf (take (p .at) room) (p .receiver .state) (heldIn (p .receiver)) (p .counts) (p .handed)
+unfoldable pub upshot : (line room : List ℕ) → Progress → Upshot
+upshot line room p =
+    upshotOf (take (p .at) room) (p .receiver .state) (heldIn (p .receiver)) (p .counts) (p .handed)
     (run (feedIn (p .receiver)) (drop (p .pos) (lineBits line)))
 
 -- on the way: all numbers are in range, and what is still to be written fits the room
@@ -78,14 +78,14 @@ pub record Under (line room : List ℕ) (p : Progress) : Type 0 where
   pub sound : Sound (p .receiver .carried)
   pub pos : p .pos ≤ 8 * length line
   pub at : p .at ≤ length room
-  pub fits : length (outcome line room p .bytes) ≤ length room
+  pub fits : length (upshot line room p .bytes) ≤ length room
   pub counts : Within (p .pos) (p .counts)
   pub handed : HandedWithin (p .pos) (p .handed)
 
 -- one turn leaves what comes of it, and what stands in the room behind the bytes written
 pub record Turns (line room room′ : List ℕ) (p p′ : Progress) : Type 0 where
   pub under : Under line room′ p′
-  pub same : outcome line room′ p′ ≡ outcome line room p
+  pub same : upshot line room′ p′ ≡ upshot line room p
   pub past : p .pos < p′ .pos
   pub grows : p .at ≤ p′ .at
   pub rest : drop (p′ .at) room′ ≡ drop (p′ .at) room
@@ -94,7 +94,7 @@ pub record Turns (line room room′ : List ℕ) (p p′ : Progress) : Type 0 whe
 -- some turns, or none, leave what comes of it, and what stands in the room behind the bytes written; the line does not end
 pub record Stretches (line room room′ : List ℕ) (p p′ : Progress) : Type 0 where
   pub under : Under line room′ p′
-  pub same : outcome line room′ p′ ≡ outcome line room p
+  pub same : upshot line room′ p′ ≡ upshot line room p
   pub past : p .pos ≤ p′ .pos
   pub ends : p′ .pos < 8 * length line
   pub grows : p .at ≤ p′ .at
@@ -117,8 +117,8 @@ pub record Ends (line room room′ : List ℕ) (r : Receiver) (p : Progress) : T
   pub few : HandedWithin (8 * length line) (p .handed)
 
 -- what a receiver writes of a line, the block that it then holds aside
-abbrev pub written : Receiver → List ℕ → List ℕ
-written r line = bytesOf (settle (r .state) (heldIn r ++ run (feedIn r) (lineBits line) .tested) .judged)
+abbrev pub writtenBy : Receiver → List ℕ → List ℕ
+writtenBy r line = bytesOf (settle (r .state) (heldIn r ++ run (feedIn r) (lineBits line) .tested) .judged)
 
 -- ---- the answer of the block held, if there is one
 

@@ -9,8 +9,8 @@ use Rattle.scrambler.specs.Scrambler.{descrambled, lineAfter}
 use Rattle.block.specs.Block.{decoded, classOf}
 use Rattle.block.specs.declared.Edition.{Edition}
 use Rattle.block.specs.declared.Class.{Class}
-use Rattle.diagrams.specs.Lock.{lockFresh, lockOf, slipsOf}
-use Rattle.diagrams.specs.Rate.{rateFresh, rateOf}
+use Rattle.lock.specs.Lock.{lockFresh, lockOf, slipsOf}
+use Rattle.lock.specs.Rate.{rateFresh, rateOf}
 use Rattle.receiving.specs.declared.Link.{Link}
 
 -- ---- one tested block: "each tested block updates lock, then error rate"

@@ -31,18 +31,18 @@ unfoldable pub takenFrom : Feed → List ℕ → List Taken
 takenFrom f [] = []
 takenFrom f (b ∷ bits) = takenAt f b ++ takenFrom (feed f b) bits
 
-unfoldable pub takenOf : Edition → List ℕ → List Taken
-takenOf ed line = takenFrom (at (linkFresh ed)) (lineBits line)
+unfoldable pub takenBlocks : Edition → List ℕ → List Taken
+takenBlocks ed line = takenFrom (at (linkFresh ed)) (lineBits line)
 
 -- its kind and its vector by document 01, and whether the receiver is then locked and not high
-abbrev pub plain : Taken → ℕ
-plain t = descrambled (t .payload) (t .link .history)
+abbrev pub takenPlain : Taken → ℕ
+takenPlain t = descrambled (t .payload) (t .link .history)
 
 abbrev pub takenKind : Taken → Kind
-takenKind t = kindOf (t .link .edition) (t .header) (plain t)
+takenKind t = kindOf (t .link .edition) (t .header) (takenPlain t)
 
 abbrev pub takenVector : Taken → List ℕ
-takenVector t = decoded (t .link .edition) (t .header) (plain t)
+takenVector t = decoded (t .link .edition) (t .header) (takenPlain t)
 
 abbrev pub takenOn : Taken → Bool
 takenOn t = let l = linkOf (t .link) (t .header) (t .payload) in l .lock .locked && not (l .rate .high)

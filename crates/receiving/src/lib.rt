@@ -1,24 +1,13 @@
-// A receiver, and one turn of it: document 01, 'Diagrams' (Lock, Error rate, Receive), 'Scrambler' and 'Vectors, words and line bits'. What a
-// line gives is defined in specs/; the loop over a line is in the crate reception.
+// A receiver, as the code holds it. What a line gives of it is defined in specs/; what a receiver counts, answers and does in one turn is in
+// the crates counting, answering and turning, and the loop over a line in the crate reception.
 use block::Class;
 use block::Edition;
 use carrying::Carried;
-use carrying::take_at;
 use decoding::Vector;
-use diagrams::Lock;
-use diagrams::Rate;
 use diagrams::State;
+use lock::Lock;
+use lock::Rate;
 use refusals::Refusal;
-ghost use Prim.Native.Nat.{_*_, _≤_, _<_};
-ghost use lib.ListN.{length};
-ghost use Rattle.receiving.specs.Loop.{Under, Turns};
-
-// testing.rt: one tested block
-mod testing;
-// counting.rt: what a tested block is counted for
-pub mod counting;
-// answering.rt: the vector of a block, once the next is known
-pub mod answering;
 
 // The edition in use, and what each tested block updates: lock, error rate, and the last 58 payload bits of the line, the oldest at bit 0.
 pub struct Link {
@@ -94,61 +83,4 @@ pub struct Progress {
 pub struct LastVector {
     pub handed: Handed,
     pub alone: bool,
-}
-
-// One turn: a whole block of the line, the bits that the carried one lacks, or a bit that is skipped. A block that is full is tested, and
-// the one held before it is answered.
-pub fn turn(line: &[u8], room: &mut [u8], p: Progress) -> Progress
-    requires { ⌜ (length (now line) ≤ 825000) × Under (now line) (now room) p × (p .pos < 8 * length (now line)) ⌝ }
-    ensures { λ r. ⌜ Turns (now (line .entry)) (now (room .entry)) (now (room .exit)) p r ⌝ }
-{
-    let r = p.receiver;
-    let pos = p.pos;
-    let at = p.at;
-    let counts = p.counts;
-    let handed = p.handed;
-    let taken = take_at(line, pos, r.skip, r.carried);
-    let carried = taken.carried;
-    let link = r.link;
-    let state = r.state;
-    let held = r.held;
-    if taken.full {
-        let block = testing::test_block(link, taken.header, taken.payload);
-        let link = block.link;
-        let next = block.held;
-        let ends = answering::lets_end(next);
-        let settled = answering::settle_held(room, at, handed, r.have, state, held, ends);
-        let state = settled.state;
-        let handed = settled.handed;
-        let slipped = next.slipped;
-        let counts = counting::count_block(counts, next);
-        return Progress {
-            receiver: Receiver {
-                skip: slipped,
-                carried: carried,
-                link: link,
-                state: state,
-                have: true,
-                held: next,
-            },
-            pos: taken.next,
-            at: settled.at,
-            counts: counts,
-            handed: handed,
-        };
-    }
-    Progress {
-        receiver: Receiver {
-            skip: false,
-            carried: carried,
-            link: link,
-            state: state,
-            have: r.have,
-            held: held,
-        },
-        pos: taken.next,
-        at: at,
-        counts: counts,
-        handed: handed,
-    }
 }

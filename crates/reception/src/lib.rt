@@ -1,13 +1,15 @@
 // Receiving a line, or one more part of one: document 01, 'Diagrams' (Lock, Error rate, Receive), and document 02, 2/13.
+use answering::judged_alone;
+use answering::settle_held;
 use block::Class;
 use block::Edition;
 use block::Reason;
 use carrying::nothing;
 use decoding::Vector;
-use diagrams::Lock;
-use diagrams::Rate;
 use diagrams::State;
 use hunting::hunt;
+use lock::Lock;
+use lock::Rate;
 use locked::stretch;
 use receiving::Counts;
 use receiving::Handed;
@@ -18,10 +20,8 @@ use receiving::Progress;
 use receiving::Received;
 use receiving::Receiver;
 use receiving::Summary;
-use receiving::answering::judged_alone;
-use receiving::answering::settle_held;
-use receiving::turn;
 use refusals::Refusal;
+use turning::turn;
 ghost use mathlib.Core.Path.{_≡_};
 ghost use mathlib.Core.Bool.{true};
 ghost use mathlib.Core.List.{_++_};
@@ -32,12 +32,12 @@ ghost use Rattle.receiving.specs.Answer.{Receives, summaryOf};
 ghost use Rattle.receiving.specs.Receive.{receivedVectors};
 ghost use Rattle.receiving.specs.Ranges.{InRange};
 ghost use Rattle.receiving.specs.Counted.{HandedWithin};
-ghost use Rattle.receiving.specs.Loop.{Ends, Fresh, written, heldBytes, heldHanded, heldAlone};
+ghost use Rattle.receiving.specs.Loop.{Ends, Fresh, writtenBy, heldBytes, heldHanded, heldAlone};
 
 // A receiver over one more part of a line: the vectors go to the start of the room, but for that of the last block, which is held. Each turn
 // begins with as many blocks as go by quick ways.
 pub fn receive_more(line: &[u8], room: &mut [u8], start: Receiver) -> Progress
-    requires { ⌜ (length (now line) ≤ 825000) × InRange (start .link) × Sound (start .carried) × (length (written start (now line)) ≤ length (now room)) ⌝ }
+    requires { ⌜ (length (now line) ≤ 825000) × InRange (start .link) × Sound (start .carried) × (length (writtenBy start (now line)) ≤ length (now room)) ⌝ }
     ensures { λ p. ⌜ Ends (now (line .entry)) (now (room .entry)) (now (room .exit)) start p ⌝ }
 {
     let bits = line.len() * 8;

@@ -1,2 +1,3 @@
 pub mod Record
+pub mod Demand1
 pub mod Examples

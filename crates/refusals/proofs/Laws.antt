@@ -1,10 +1,10 @@
 -- Laws of refusal numbers and of the first check that applies.
-use Prim.Native.Nat.{ℕ, _<_}
+use Prim.Native.Nat.{ℕ}
 use mathlib.Core.Path.{_≡_, refl, ap, sym, _∙_}
 use mathlib.Core.Bool.{Bool, true, false, cond}
 use mathlib.Core.List.{List, [], _∷_, _++_}
 use native.Mathlib.Omega.{arith}
-use lib.Dec.{eqb, lit<}
+use lib.Dec.{eqb}
 use Rattle.refusals.specs.Number.{numberOf}
 use Rattle.refusals.specs.First.{Check, Verdict, accepted, refused, first, byVerdict}
 use Rattle.refusals.specs.declared.Refusal.{Refusal}
@@ -40,20 +40,6 @@ back UnknownEdition = refl
 
 pub number-injective : (a b : Refusal) → numberOf a ≡ numberOf b → a ≡ b
 number-injective a b e = sym (back a) ∙ ap refusalOf e ∙ back b
-
--- 0 is the number of no refusal.
-pub number-positive : (r : Refusal) → 0 < numberOf r
-number-positive TooMuch = lit< tt
-number-positive NotGroups = lit< tt
-number-positive StartState = lit< tt
-number-positive Room = lit< tt
-number-positive ControlByte = lit< tt
-number-positive Cut = lit< tt
-number-positive LongBody = lit< tt
-number-positive RecordKind = lit< tt
-number-positive Closed = lit< tt
-number-positive BadState = lit< tt
-number-positive UnknownEdition = lit< tt
 
 -- Of an accepted list no row applies.
 pub passed : (c : Check) (cs : List Check) → first (c ∷ cs) ≡ accepted → (c .applies ≡ false) × (first cs ≡ accepted)

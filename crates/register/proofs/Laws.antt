@@ -1,7 +1,6 @@
 -- The laws of a shift register, for every length and tap. Assumes nothing.
 use mathlib.Core.Path.{_≡_, refl, sym, ap, ap₂, _∙_}
 use mathlib.Core.Bool.{Bool, cond}
-use mathlib.Core.Logic.{_≢_, _↔_}
 use Prim.Native.Nat.{ℕ, zero, suc, _+_, _-_, _*_, _/_, _%_, _^_, _≤_, _<_}
 use native.Mathlib.Nat.{add-comm, add-zero, zero-add, mul-le-mul-right, mod-eq-of-lt, add-suc}
 use native.Mathlib.Omega.{arith}
@@ -9,8 +8,8 @@ use lib.Bits.{bitXor, xor-lt, xor-zero-r}
 use lib.Pow.{pow-pos}
 use borrow.Author.Tests.{lt-ltb, le-ltb}
 use Rattle.bits.specs.Bits.{bit, total}
-use Rattle.bits.proofs.Laws.{bit-none, bit-xor, by-lt, bit-zero, bit-suc, bit-above, bit-below, same-bits, total-add, total-mono, total-le, total-sum, mod-sums, mod-sums₃, odd-exactly, total-same}
-use Rattle.register.specs.Register.{push, pushes, whole, mix, history, sent, got, flip, flipsSeen}
+use Rattle.bits.proofs.Laws.{bit-none, bit-xor, by-lt, bit-zero, bit-suc, bit-above, bit-below, same-bits, total-add, total-mono, total-le, total-sum, mod-sums, mod-sums₃, total-same}
+use Rattle.register.specs.Register.{push, pushes, whole, mix, history, sent, got, flip}
 
 -- ---- one bit
 module _ (m a : ℕ) where
@@ -232,23 +231,10 @@ module _ (m a : ℕ) where
 
   -- a received bit is xored with the number of flips among line bit n and the bits a and m + 1 places before it
   pub got-flips : (y f : ℕ → ℕ) → ((n : ℕ) → y n < 2) → ((n : ℕ) → f n < 2) → (h g : ℕ) → h < 2 ^ suc m → g < 2 ^ suc m → 0 < a
-      → (n : ℕ) → got m a (flip y f) (bitXor h g) n ≡ (got m a y h n + flipsSeen m a g f n) % 2
-  unfolding flipsSeen
+      → (n : ℕ) → got m a (flip y f) (bitXor h g) n ≡ (got m a y h n + (f n + whole m g f (n + (suc m - a)) + whole m g f n)) % 2
   got-flips y f yb fb h g hb gb p n =
       got-flip y f yb fb h g hb gb p n
       ∙ ap (λ (x : ℕ). (got m a y h n + x) % 2) (got-at m f fb g gb a n p) ∙ mod-of-sum (got m a y h n) (f n + whole m g f (n + (suc m - a)) + whole m g f n)
-
-  -- once the history has passed, these are the flips of the line at n, n - a and n - (m + 1)
-  pub flips-late : (g : ℕ) (f : ℕ → ℕ) (n : ℕ) → a ≤ suc m → suc m ≤ n → flipsSeen m a g f n ≡ f n + f (n - a) + f (n - suc m)
-  unfolding flipsSeen
-  flips-late g f n l k =
-      ap₂ (λ (u v : ℕ). f n + u + v) (whole-high m g f (n + (suc m - a)) (n - a) (omega arith)) (whole-high m g f n (n - suc m) (omega arith))
-
-  -- a received bit changes exactly when an odd number is flipped of line bit n and the bits a and m + 1 places before it
-  pub changed-exactly : (y f : ℕ → ℕ) → ((n : ℕ) → y n < 2) → ((n : ℕ) → f n < 2) → (h g : ℕ) → h < 2 ^ suc m → g < 2 ^ suc m → 0 < a
-      → (n : ℕ) → got m a (flip y f) (bitXor h g) n ≢ got m a y h n ↔ flipsSeen m a g f n % 2 ≡ 1
-  changed-exactly y f yb fb h g hb gb p n =
-      odd-exactly (got m a (flip y f) (bitXor h g) n) (got m a y h n) (flipsSeen m a g f n) (got-lt m a y h n) (got-flips y f yb fb h g hb gb p n)
 
   -- ---- how many bits change: in a window no longer than the least distance of two taps, each flip changes one bit at most
   module _ (f : ℕ → ℕ) (fb : (n : ℕ) → f n < 2) (p : 0 < a) where

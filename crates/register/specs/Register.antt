@@ -46,7 +46,3 @@ module _ (m a : ℕ) where
 -- the line y with the bits flipped at which f is 1
 unfoldable pub flip : (ℕ → ℕ) → (ℕ → ℕ) → ℕ → ℕ
 flip y f n = (y n + f n) % 2
-
--- how many are flipped of line bit n and the bits a and m + 1 places before it, where g has the flips of the history
-unfoldable pub flipsSeen : ℕ → ℕ → ℕ → (ℕ → ℕ) → ℕ → ℕ
-flipsSeen m a g f n = f n + whole m g f (n + (suc m - a)) + whole m g f n

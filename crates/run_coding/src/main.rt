@@ -1,12 +1,10 @@
-// Document 01, 'Run and compared': sending here, receiving in received.rt, a record's body handed on to either in captured.rt; document 02, 9/13, in
-// editions.rt.
+// Document 01, 'Run and compared', as far as short lists and lines show it: sending here, receiving in received.rt, a record's body handed on to
+// either in captured.rt; document 02, 9/13, in editions.rt.
 use libc::STDOUT_FILENO;
 use refusals::Refusal;
 use refusals::number;
 use sending::Sent;
 use sending::send;
-ghost use mathlib.Core.Path.{_≡_};
-ghost use lib.ListN.{length};
 
 // received.rt: receiving
 mod received;
@@ -110,15 +108,6 @@ fn front(bytes: &[u8], n: usize) -> &[u8] {
     bytes
 }
 
-// The last eight bytes, or all where there are fewer.
-fn back(bytes: &[u8]) -> &[u8] {
-    if 8 <= bytes.len() {
-        let from = bytes.len() - 8;
-        return &bytes[from..];
-    }
-    bytes
-}
-
 // Sending into the first n bytes of a room.
 fn send_into(vectors: &[u8], room: &mut [u8], n: usize) -> Sent {
     if n <= room.len() {
@@ -147,35 +136,6 @@ fn run_refused() {
     refuse(&vectors, &mut room);
 }
 
-// 100,000 vectors pass and 100,004 are refused.
-fn largest(vectors: &[u8], line: &mut [u8]) {
-    print(b"100000 vectors: ");
-    print_answer(send(0, front(vectors, 1000000), 0, line));
-    print_bytes(back(line));
-    print(b"100004 vectors: ");
-    print_answer(send(0, vectors, 0, line));
-}
-
-// Zeros, of which a caller knows the number only.
-fn vector_bytes() -> [u8; 1000040]
-    ensures { λ r. ⌜ 1000040 ≡ length r ⌝ }
-{
-    [0u8; 1000040]
-}
-
-fn line_bytes() -> [u8; 825000]
-    ensures { λ r. ⌜ 825000 ≡ length r ⌝ }
-{
-    [0u8; 825000]
-}
-
-fn run_largest() {
-    let mut vectors = vector_bytes();
-    let mut line = line_bytes();
-    spell(b"ISDT", &mut vectors);
-    largest(&vectors, &mut line);
-}
-
 fn main() {
     run(b"IIII", 0);
     run(b"SDDT", 0);
@@ -191,7 +151,6 @@ fn main() {
     print(b"from 2^58: ");
     run(b"IIII", 288230376151711744);
     run_refused();
-    run_largest();
     received::all();
     captured::all();
     editions::all();

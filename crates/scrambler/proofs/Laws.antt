@@ -1,16 +1,15 @@
 -- The laws of scrambling: there and back, starts that do not matter, flipped bits, states. Assumes nothing.
 use mathlib.Core.Path.{_≡_, refl, sym, ap, ap₂, _∙_, subst}
-use mathlib.Core.List.{List, [], _∷_, _++_}
-use mathlib.Core.Logic.{_≢_, _↔_}
+use mathlib.Core.List.{List, [], _∷_}
 use Prim.Native.Nat.{ℕ, zero, suc, _+_, _-_, _*_, _/_, _%_, _^_, _≤_, _<_}
 use native.Mathlib.Omega.{arith}
 use lib.ListN.{length, getD}
-use lib.Bits.{bitXor, xor-zero-r}
+use lib.Bits.{xor-zero-r}
 use Rattle.bits.specs.Bits.{bit, total, streamBit}
-use Rattle.bits.proofs.Laws.{bit-lt, bit-number, number-lt, is-number, same-bits, bit-xor, odd-exactly, total-below, stream-lt, stream-head, stream-tail, Words, none, more}
-use Rattle.register.specs.Register.{sent, history, got, pushes, flip, flipsSeen}
-use Rattle.register.proofs.Laws.{sent-lt, sent-same, sent-add, history-same, got-same, pushes-same, pushes-forget, history-line, round-trip, pushes-lt, got-lt, got-add, got-flips, changed-few as few}
-use Rattle.scrambler.specs.Scrambler.{scrambled, historyAfter, descrambled, lineAfter, mirror, scrambledAll, historyAll, descrambledAll}
+use Rattle.bits.proofs.Laws.{bit-lt, bit-number, number-lt, is-number, total-below, stream-lt, stream-head, stream-tail}
+use Rattle.register.specs.Register.{sent, got, pushes, flip, whole}
+use Rattle.register.proofs.Laws.{sent-lt, got-same, pushes-same, pushes-forget, history-line, round-trip, pushes-lt, got-lt, got-add, got-flips, changed-few as few}
+use Rattle.scrambler.specs.Scrambler.{scrambled, historyAfter, descrambled, lineAfter, mirror, descrambledAll}
 
 -- ---- bounds and bits
 pub scrambled-lt : (p h : ℕ) → scrambled p h < 2 ^ 64
@@ -66,86 +65,13 @@ descrambled-scrambled p h pb =
     ∙ round-trip 57 39 (bit p) h n (bit-lt p n))))
 
 -- ---- payload after payload
-pub length-scrambledAll : (ps : List ℕ) (h : ℕ) → length (scrambledAll ps h) ≡ length ps
-unfolding scrambledAll
-length-scrambledAll [] h = refl
-length-scrambledAll (p ∷ ps) h = ap suc (length-scrambledAll ps (historyAfter p h))
-
--- .. and as many are received
+-- as many are received as words came
 pub length-descrambledAll : (ws : List ℕ) (h : ℕ) → length (descrambledAll ws h) ≡ length ws
 unfolding descrambledAll
 length-descrambledAll [] h = refl
 length-descrambledAll (w ∷ ws) h = ap suc (length-descrambledAll ws (lineAfter w h))
 
--- each has 64 bits
-pub scrambledAll-words : (ps : List ℕ) (h : ℕ) → Words 64 (scrambledAll ps h)
-unfolding scrambledAll
-scrambledAll-words [] h = none
-scrambledAll-words (p ∷ ps) h = more (scrambled-lt p h) (scrambledAll-words ps (historyAfter p h))
-
--- the history after the last has 58 bits
-pub historyAll-lt : (ps : List ℕ) (h : ℕ) → h < 2 ^ 58 → historyAll ps h < 2 ^ 58
-unfolding historyAll
-historyAll-lt [] h hb = hb
-historyAll-lt (p ∷ ps) h hb = historyAll-lt ps (historyAfter p h) (historyAfter-lt p h hb)
-
--- sending in parts: the second part goes on from the history of the first
-pub scrambledAll-append : (ps qs : List ℕ) (h : ℕ) → scrambledAll (ps ++ qs) h ≡ scrambledAll ps h ++ scrambledAll qs (historyAll ps h)
-unfolding scrambledAll historyAll
-scrambledAll-append [] qs h = refl
-scrambledAll-append (p ∷ ps) qs h = ap (λ (l : List ℕ). scrambled p h ∷ l) (scrambledAll-append ps qs (historyAfter p h))
-
--- .. and so does its history
-pub historyAll-append : (ps qs : List ℕ) (h : ℕ) → historyAll (ps ++ qs) h ≡ historyAll qs (historyAll ps h)
-unfolding historyAll
-historyAll-append [] qs h = refl
-historyAll-append (p ∷ ps) qs h = historyAll-append ps qs (historyAfter p h)
-
--- descrambling what was scrambled from the same history gives the payloads back
-pub round-trip-all : {ps : List ℕ} → Words 64 ps → (h : ℕ) → descrambledAll (scrambledAll ps h) h ≡ ps
-unfolding scrambledAll descrambledAll
-round-trip-all none h = refl
-round-trip-all (more {x = p} {xs = ps} l r) h =
-    ap₂ _∷_ (descrambled-scrambled p h l)
-    (ap (descrambledAll (scrambledAll ps (historyAfter p h))) (line-scrambled p h) ∙ round-trip-all r (historyAfter p h))
-
--- whatever the receiver's start, it gives all but the first payload back
-pub late-start : (p : ℕ) {ps : List ℕ} → Words 64 ps → (h k : ℕ) → h < 2 ^ 58 → k < 2 ^ 58
-    → descrambledAll (scrambledAll (p ∷ ps) h) k ≡ descrambled (scrambled p h) k ∷ ps
-unfolding scrambledAll descrambledAll
-late-start p {ps} r h k hb kb =
-    ap (λ (l : List ℕ). descrambled (scrambled p h) k ∷ l)
-    (ap (descrambledAll (scrambledAll ps (historyAfter p h))) (lineAfter-forget (scrambled p h) k h kb hb ∙ line-scrambled p h)
-    ∙ round-trip-all r (historyAfter p h))
-
 -- ---- the words as one stream: document 01's rule goes on from block to block
-historyAfter-stream : (p : ℕ) (ps : List ℕ) (h : ℕ) → historyAfter p h ≡ history 57 39 (streamBit 64 (p ∷ ps)) h 64
-unfolding historyAfter
-historyAfter-stream p ps h = history-same 57 39 (bit p) (streamBit 64 (p ∷ ps)) h 64 (λ i l. sym (stream-head 64 p ps i l))
-
--- bit i of sent payload k is sent bit 64 k + i of the stream
-pub scrambled-stream : (ps : List ℕ) (h k i : ℕ) → k < length ps → i < 64
-    → bit (getD (scrambledAll ps h) k 0) i ≡ sent 57 39 (streamBit 64 ps) h (64 * k + i)
-unfolding scrambledAll
-scrambled-stream [] h k i l m = absurd (omega arith)
-scrambled-stream (p ∷ ps) h zero i l m =
-    let e : i ≡ 64 * 0 + i = omega arith in
-    bit-scrambled p h i m ∙ sent-same 57 39 (bit p) (streamBit 64 (p ∷ ps)) h i (λ j q. sym (stream-head 64 p ps j (omega arith)))
-    ∙ ap (sent 57 39 (streamBit 64 (p ∷ ps)) h) e
-scrambled-stream (p ∷ ps) h (suc k) i l m =
-    let e : 64 + (64 * k + i) ≡ 64 * suc k + i = omega arith in
-    scrambled-stream ps (historyAfter p h) k i (omega arith) m
-    ∙ ap (λ (z : ℕ). sent 57 39 (streamBit 64 ps) z (64 * k + i)) (historyAfter-stream p ps h)
-    ∙ sent-same 57 39 (streamBit 64 ps) (λ n. streamBit 64 (p ∷ ps) (64 + n)) (history 57 39 (streamBit 64 (p ∷ ps)) h 64) (64 * k + i) (λ j q. sym (stream-tail 64 p ps j (omega arith)))
-    ∙ sent-add 57 39 (streamBit 64 (p ∷ ps)) h 64 (64 * k + i) ∙ ap (sent 57 39 (streamBit 64 (p ∷ ps)) h) e
-
--- the sent payloads as one stream are the stream that is sent
-pub stream-scrambled : (ps : List ℕ) (h n : ℕ) → n < 64 * length ps → streamBit 64 (scrambledAll ps h) n ≡ sent 57 39 (streamBit 64 ps) h n
-unfolding streamBit
-stream-scrambled ps h n l =
-    let e : 64 * (n / 64) + n % 64 ≡ n = omega arith in
-    scrambled-stream ps h (n / 64) (n % 64) (omega arith) (omega arith) ∙ ap (sent 57 39 (streamBit 64 ps) h) e
-
 -- a word and those after it, as one stream
 lineAfter-stream : (w : ℕ) (ws : List ℕ) (h : ℕ) → lineAfter w h ≡ pushes 57 (streamBit 64 (w ∷ ws)) h 64
 unfolding lineAfter
@@ -174,25 +100,7 @@ stream-descrambled ws h n l =
     let e : 64 * (n / 64) + n % 64 ≡ n = omega arith in
     descrambled-stream ws h (n / 64) (n % 64) (omega arith) (omega arith) ∙ ap (got 57 39 (streamBit 64 ws) h) e
 
--- ---- flips of the line: those of a word are the bits of e, those of the history before it the bits of g
--- a bit of a payload is xored with the number of flips 0, 39 and 58 places before it
-pub descrambled-flips : (w e h g : ℕ) → h < 2 ^ 58 → g < 2 ^ 58 → (n : ℕ) → n < 64
-    → bit (descrambled (bitXor w e) (bitXor h g)) n ≡ (bit (descrambled w h) n + flipsSeen 57 39 g (bit e) n) % 2
-unfolding flip
-descrambled-flips w e h g hb gb n l =
-    bit-descrambled (bitXor w e) (bitXor h g) n l
-    ∙ got-same 57 39 (bit (bitXor w e)) (flip (bit w) (bit e)) (bitXor h g) n (λ i m. bit-xor w e i)
-    ∙ got-flips 57 39 (bit w) (bit e) (bit-lt w) (bit-lt e) h g hb gb (omega arith) n
-    ∙ ap (λ (x : ℕ). (x + flipsSeen 57 39 g (bit e) n) % 2) (sym (bit-descrambled w h n l))
-
--- a bit of a payload changes exactly when an odd number of flips stand 0, 39 or 58 places before it
-pub descrambled-changed : (w e h g : ℕ) → h < 2 ^ 58 → g < 2 ^ 58 → (n : ℕ) → n < 64
-    → bit (descrambled (bitXor w e) (bitXor h g)) n ≢ bit (descrambled w h) n ↔ flipsSeen 57 39 g (bit e) n % 2 ≡ 1
-descrambled-changed w e h g hb gb n l =
-    odd-exactly (bit (descrambled (bitXor w e) (bitXor h g)) n) (bit (descrambled w h) n) (flipsSeen 57 39 g (bit e) n)
-    (bit-lt (descrambled w h) n) (descrambled-flips w e h g hb gb n l)
-
--- the line as a stream, its payload bits flipped where f is 1: whole lists of words
+-- ---- flips of the line, a stream: its payload bits flipped where f is 1
 module _ (ws vs : List ℕ) (f : ℕ → ℕ) (fb : (n : ℕ) → f n < 2) (same : length vs ≡ length ws)
     (flipped : (n : ℕ) → n < 64 * length ws → streamBit 64 vs n ≡ flip (streamBit 64 ws) f n) (h : ℕ) (hb : h < 2 ^ 58) where
   got-flipped : (n : ℕ) → n < 64 * length ws → streamBit 64 (descrambledAll vs h) n ≡ got 57 39 (flip (streamBit 64 ws) f) h n
@@ -201,18 +109,11 @@ module _ (ws vs : List ℕ) (f : ℕ → ℕ) (fb : (n : ℕ) → f n < 2) (same
 
   -- a received bit is xored with the number of flips 0, 39 and 58 places before it
   pub stream-flips : (n : ℕ) → n < 64 * length ws
-      → streamBit 64 (descrambledAll vs h) n ≡ (streamBit 64 (descrambledAll ws h) n + flipsSeen 57 39 0 f n) % 2
+      → streamBit 64 (descrambledAll vs h) n ≡ (streamBit 64 (descrambledAll ws h) n + (f n + whole 57 0 f (n + 19) + whole 57 0 f n)) % 2
   stream-flips n l =
       got-flipped n l ∙ ap (λ (k : ℕ). got 57 39 (flip (streamBit 64 ws) f) k n) (sym (xor-zero-r h))
       ∙ got-flips 57 39 (streamBit 64 ws) f (stream-lt 64 ws) fb h 0 hb (omega arith) (omega arith) n
-      ∙ ap (λ (x : ℕ). (x + flipsSeen 57 39 0 f n) % 2) (sym (stream-descrambled ws h n l))
-
-  -- a received bit changes exactly when an odd number of flips stand 0, 39 or 58 places before it
-  pub stream-changed : (n : ℕ) → n < 64 * length ws
-      → streamBit 64 (descrambledAll vs h) n ≢ streamBit 64 (descrambledAll ws h) n ↔ flipsSeen 57 39 0 f n % 2 ≡ 1
-  stream-changed n l =
-      odd-exactly (streamBit 64 (descrambledAll vs h) n) (streamBit 64 (descrambledAll ws h) n) (flipsSeen 57 39 0 f n)
-      (stream-lt 64 (descrambledAll ws h) n) (stream-flips n l)
+      ∙ ap (λ (x : ℕ). (x + (f n + whole 57 0 f (n + 19) + whole 57 0 f n)) % 2) (sym (stream-descrambled ws h n l))
 
   -- in any window of at most 19 bits no more bits change than were flipped
   pub changed-few : (j w : ℕ) → w ≤ 19 → j + w ≤ 64 * length ws
@@ -230,16 +131,3 @@ module _ (ws vs : List ℕ) (f : ℕ → ℕ) (fb : (n : ℕ) → f n < 2) (same
 pub mirror-lt : (s : ℕ) → mirror s < 2 ^ 58
 unfolding mirror
 mirror-lt s = number-lt 58 (λ j. bit s (57 - j)) (λ i l. bit-lt s (57 - i))
-
--- bit j of a history is bit 57 - j of the state
-pub bit-mirror : (s j : ℕ) → j < 58 → bit (mirror s) j ≡ bit s (57 - j)
-unfolding mirror
-bit-mirror s j l = bit-number 58 (λ j. bit s (57 - j)) (λ i l. bit-lt s (57 - i)) j l
-
--- a state as a history, and back, is the state
-pub mirror-twice : (s : ℕ) → s < 2 ^ 58 → mirror (mirror s) ≡ s
-mirror-twice s sb =
-    same-bits 58 (mirror (mirror s)) s (mirror-lt (mirror s)) sb
-    (λ j l.
-    let e : 57 - (57 - j) ≡ j = omega arith in
-    bit-mirror (mirror s) j l ∙ bit-mirror s (57 - j) (omega arith) ∙ ap (bit s) e)

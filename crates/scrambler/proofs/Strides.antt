@@ -1,6 +1,4 @@
 -- Why the scrambler's first stride is 39 bits: so many can be sent at once, and no more. Assumes nothing.
-use mathlib.Core.Path.{_≡_}
-use Prim.Native.Nat.{ℕ, _≤_}
 use native.Mathlib.Omega.{arith}
 use Rattle.register.specs.Register.{Stride}
 use Rattle.register.proofs.Strides as register

@@ -28,16 +28,6 @@ lineAfter w h = pushes 57 (bit w) h 64
 unfoldable pub mirror : ℕ → ℕ
 mirror s = number 58 (λ j. bit s (57 - j))
 
--- what is sent, payload after payload
-unfoldable pub scrambledAll : List ℕ → ℕ → List ℕ
-scrambledAll [] h = []
-scrambledAll (p ∷ ps) h = scrambled p h ∷ scrambledAll ps (historyAfter p h)
-
--- the history after the last payload
-unfoldable pub historyAll : List ℕ → ℕ → ℕ
-historyAll [] h = h
-historyAll (p ∷ ps) h = historyAll ps (historyAfter p h)
-
 -- what is received, payload after payload
 unfoldable pub descrambledAll : List ℕ → ℕ → List ℕ
 descrambledAll [] h = []

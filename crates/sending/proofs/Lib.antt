@@ -1,10 +1,6 @@
-pub mod Laws
-pub mod Steps
-pub mod Four
 pub mod Whole
-pub mod Over
-pub mod Scan
 pub mod Low
 pub mod Answers
 pub mod Unique
 pub mod Verdicts
+pub mod Demand1

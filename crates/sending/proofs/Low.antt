@@ -8,7 +8,7 @@ use lib.ListN.{length, getD, List·getD-eq-default}
 use Rattle.bits.proofs.Laws.{by-lt}
 use Rattle.block.specs.Block.{highFrom, highControl}
 use Rattle.block.proofs.High.{high-here, high-next}
-use Rattle.sending.specs.Sends.{Low}
+use Rattle.groups.specs.Four.{Low}
 
 low-word : (n p : ℕ) (bytes : List ℕ) → p + 5 * n ≤ highFrom n p bytes → (i : ℕ) → i < n → getD bytes (p + 5 * i) 0 ≤ 15
 low-word zero p bytes h i l = absurd (omega arith)

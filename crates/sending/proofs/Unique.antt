@@ -4,7 +4,6 @@ use mathlib.Core.Path.{_≡_, sym, ap, _∙_}
 use mathlib.Core.List.{List}
 use Rattle.refusals.specs.Number.{numberOf}
 use Rattle.refusals.proofs.Laws.{number-injective}
-use Rattle.block.specs.Block.{highControl}
 use Rattle.sending.specs.Answer.{answerOf, Sends}
 use Rattle.sending.specs.declared.Sent.{Sent}
 use Rattle.sending.specs.declared.Sent.the-variants.{Done, Refused}
@@ -26,6 +25,3 @@ answer-injective (Refused w p) (Refused w′ p′) e =
 pub send-unique : (edition : ℕ) (vectors room : List ℕ) (start : ℕ) (a b : Sent) (after after′ : List ℕ)
     → Sends edition vectors start room a after → Sends edition vectors start room b after′ → (a ≡ b) × (after ≡ after′)
 send-unique edition vectors room start a b after after′ p q = (answer-injective a b (p .0 ∙ sym (q .0)), p .1 ∙ sym (q .1))
-
-pub first-high-unique : (bytes : List ℕ) (r r′ : ℕ) → r ≡ highControl bytes → r′ ≡ highControl bytes → r ≡ r′
-first-high-unique bytes r r′ p q = p ∙ sym q

@@ -15,34 +15,34 @@ use Rattle.sending.specs.Answer.{SendAnswer, sent, sendChecks, sentFor, 
 use Rattle.sending.specs.Answer as Answer
 
 -- an answer tells the verdict
-abbrev pub verdictOf : SendAnswer → Verdict
-verdictOf (sent state diagram replaced) = accepted
-verdictOf (Answer.refused number place) = refused number place
+abbrev pub verdictOfSend : SendAnswer → Verdict
+verdictOfSend (sent state diagram replaced) = accepted
+verdictOfSend (Answer.refused number place) = refused number place
 
-told : (v : Verdict) (ed : Edition) (bytes : List ℕ) (start : ℕ) → verdictOf (byVerdict v (sentFor ed bytes start) Answer.refused) ≡ v
+told : (v : Verdict) (ed : Edition) (bytes : List ℕ) (start : ℕ) → verdictOfSend (byVerdict v (sentFor ed bytes start) Answer.refused) ≡ v
 unfolding sentFor
 told accepted ed bytes start = refl
 told (refused n p) ed bytes start = refl
 
-pub verdict-told : (edition : ℕ) (bytes : List ℕ) (start room : ℕ) → verdictOf (sendAnswer edition bytes start room) ≡ first (sendChecks edition bytes start room)
+pub verdict-told : (edition : ℕ) (bytes : List ℕ) (start room : ℕ) → verdictOfSend (sendAnswer edition bytes start room) ≡ first (sendChecks edition bytes start room)
 unfolding sendAnswer
 verdict-told edition bytes start room = told (first (sendChecks edition bytes start room)) (editionOf edition) bytes start
 
 -- a refusal's place is 0, or it is that of a control byte
-placed : (z a b c d e : Bool) (h n p : ℕ) → first (check 13 z ∷ check 1 a ∷ check 2 b ∷ check 3 c ∷ check 4 d ∷ checkAt 5 h e ∷ []) ≡ refused n p
+refusal-place : (z a b c d e : Bool) (h n p : ℕ) → first (check 13 z ∷ check 1 a ∷ check 2 b ∷ check 3 c ∷ check 4 d ∷ checkAt 5 h e ∷ []) ≡ refused n p
     → (p ≡ 0) ⊎ ((a ≡ false) × (e ≡ true) × (h ≡ p))
 unfolding first
-placed true a b c d e h n p q = inl cc
-placed false true b c d e h n p q = inl cc
-placed false false true c d e h n p q = inl cc
-placed false false false true d e h n p q = inl cc
-placed false false false false true e h n p q = inl cc
-placed false false false false false true h n p q = inr (refl, refl, cc)
-placed false false false false false false h n p q = inl cc
+refusal-place true a b c d e h n p q = inl cc
+refusal-place false true b c d e h n p q = inl cc
+refusal-place false false true c d e h n p q = inl cc
+refusal-place false false false true d e h n p q = inl cc
+refusal-place false false false false true e h n p q = inl cc
+refusal-place false false false false false true h n p q = inr (refl, refl, cc)
+refusal-place false false false false false false h n p q = inl cc
 
 pub place-small : (edition : ℕ) (bytes : List ℕ) (start room n p : ℕ) → first (sendChecks edition bytes start room) ≡ refused n p → p ≤ 1000000
 unfolding sendChecks
 place-small edition bytes start room n p q =
     ⊎-elim (λ z. omega arith) (λ t. omega (arith, ltb-false 1000000 (length bytes) (t .0), ltb-true (highControl bytes) (length bytes) (t .1)))
-    (placed (ltb 1 edition) (ltb 1000000 (length bytes)) (not (eqb (length bytes % 40) 0)) (leb (2 ^ 58) start) (ltb room (33 * (length bytes / 40)))
+    (refusal-place (ltb 1 edition) (ltb 1000000 (length bytes)) (not (eqb (length bytes % 40) 0)) (leb (2 ^ 58) start) (ltb room (33 * (length bytes / 40)))
     (ltb (highControl bytes) (length bytes)) (highControl bytes) n p q)

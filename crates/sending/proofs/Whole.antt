@@ -9,11 +9,13 @@ use Rattle.bits.specs.Bits.{streamBit, cut}
 use Rattle.bits.proofs.Laws.{length-cut}
 use Rattle.bits.proofs.Lists.{cut-join}
 use Rattle.block.specs.declared.Edition.{Edition}
-use Rattle.sending.specs.Send.{vectorsIn, sentBlocks, lineWords}
-use Rattle.sending.specs.declared.Sender.{Sender}
-use Rattle.sending.specs.declared.Group.{Group}
-use Rattle.sending.specs.Sends.{Sends, wordsOf, Groups, wordsFor, Fills}
-use Rattle.sending.proofs.Laws.{vectors-add, length-vectors, sends-none, sends-join, sends-few, sends-history, sends-length}
+use Rattle.transmit.specs.Send.{vectorsIn, sentBlocks, lineWords}
+use Rattle.transmit.specs.declared.Sender.{Sender}
+use Rattle.groups.specs.declared.Group.{Group}
+use Rattle.transmit.specs.Steps.{SentAs}
+use Rattle.groups.specs.Four.{groupWords, SentFour}
+use Rattle.sending.specs.Whole.{wordsFor, SentInto}
+use Rattle.transmit.proofs.Laws.{vectors-add, length-vectors, sends-none, sends-join, sends-few, sends-history, sends-length}
 
 -- the line of words in groups of four
 abbrev pub lineOf : List ℕ → ℕ → List ℕ
@@ -21,16 +23,16 @@ lineOf words g = cut 8 (streamBit 66 words) (33 * g)
 
 module _ (ed : Edition) where
   -- After g groups their line is at the start of the room, and the rest of the room is as it was.
-  pub record Sofar (s : Sender) (bytes before after : List ℕ) (next : Sender) (g : ℕ) : Type 0 where
+  pub record SentSofar (s : Sender) (bytes before after : List ℕ) (next : Sender) (g : ℕ) : Type 0 where
     pub upto : g ≤ length bytes / 40
-    pub sends : Sends ed s (vectorsIn (4 * g) bytes) (wordsFor ed s (vectorsIn (4 * g) bytes)) next
+    pub sends : SentAs ed s (vectorsIn (4 * g) bytes) (wordsFor ed s (vectorsIn (4 * g) bytes)) next
     pub room : after ≡ lineOf (wordsFor ed s (vectorsIn (4 * g) bytes)) g ++ drop (33 * g) before
 
-  pub first : (s : Sender) (bytes before : List ℕ) → Sofar s bytes before before s 0
+  pub first : (s : Sender) (bytes before : List ℕ) → SentSofar s bytes before before s 0
   unfolding vectorsIn cut lineWords sentBlocks
   first s bytes before = record { upto = omega arith; sends = sends-none ed s; room = refl }
 
-  module _ (s : Sender) (bytes before after : List ℕ) (next : Sender) (g : ℕ) (inv : Sofar s bytes before after next g) where
+  module _ (s : Sender) (bytes before after : List ℕ) (next : Sender) (g : ℕ) (inv : SentSofar s bytes before after next g) where
     pub few : next .replaced ≤ s .replaced + 4 * g
     few = omega (arith, sends-few ed s next (vectorsIn (4 * g) bytes) _ (inv .sends), length-vectors (4 * g) bytes)
 
@@ -63,21 +65,21 @@ module _ (ed : Edition) where
         sym (cut-join 66 8 (33 * g) 33 words four (omega arith) (omega (arith, length-words)))
         ∙ ap (cut 8 (streamBit 66 (words ++ four))) e
 
-    pub turn : (r : Group) (room : List ℕ) → g < length bytes / 40 → Groups ed next (vectorsIn 4 (drop (40 * g) bytes)) r
-        → room ≡ take (33 * g) after ++ cut 8 (streamBit 66 (wordsOf (r .a) (r .b) (r .c) (r .d))) 33 ++ drop (33 * g + 33) after
-        → Sofar s bytes before room (r .next) (g + 1)
+    pub turn : (r : Group) (room : List ℕ) → g < length bytes / 40 → SentFour ed next (vectorsIn 4 (drop (40 * g) bytes)) r
+        → room ≡ take (33 * g) after ++ cut 8 (streamBit 66 (groupWords (r .a) (r .b) (r .c) (r .d))) 33 ++ drop (33 * g + 33) after
+        → SentSofar s bytes before room (r .next) (g + 1)
     turn r room l group e =
-        let four = wordsOf (r .a) (r .b) (r .c) (r .d) in
+        let four = groupWords (r .a) (r .b) (r .c) (r .d) in
         let d : 10 * (4 * g) ≡ 40 * g = omega arith in
         let n : 4 * g + 4 ≡ 4 * (g + 1) = omega arith in
         let m : 33 * g + 33 ≡ 33 * (g + 1) = omega arith in
         let v : vectorsIn (4 * g) bytes ++ vectorsIn 4 (drop (40 * g) bytes) ≡ vectorsIn (4 * (g + 1)) bytes =
         ap (λ (i : ℕ). vectorsIn (4 * g) bytes ++ vectorsIn 4 (drop i bytes)) (sym d) ∙ sym (vectors-add (4 * g) 4 bytes) ∙ ap (λ (i : ℕ). vectorsIn i bytes) n in
-        let j : Sends ed s (vectorsIn (4 * (g + 1)) bytes) (words ++ four) (r .next) =
-        subst (λ (vs : List (List ℕ)). Sends ed s vs (words ++ four) (r .next)) v (sends-join ed s next (r .next) _ _ words four (inv .sends) (group .sends)) in
+        let j : SentAs ed s (vectorsIn (4 * (g + 1)) bytes) (words ++ four) (r .next) =
+        subst (λ (vs : List (List ℕ)). SentAs ed s vs (words ++ four) (r .next)) v (sends-join ed s next (r .next) _ _ words four (inv .sends) (group .sends)) in
         record {
           upto = omega arith;
-          sends = subst (λ (ws : List ℕ). Sends ed s (vectorsIn (4 * (g + 1)) bytes) ws (r .next)) (j .line) j;
+          sends = subst (λ (ws : List ℕ). SentAs ed s (vectorsIn (4 * (g + 1)) bytes) ws (r .next)) (j .line) j;
           room =
               e
               ∙ ap₂ (λ (x y : List ℕ). x ++ cut 8 (streamBit 66 four) 33 ++ y) taken dropped
@@ -85,13 +87,13 @@ module _ (ed : Edition) where
               ∙ ap (λ (ws : List ℕ). lineOf ws (g + 1) ++ drop (33 * (g + 1)) before) (j .line);
         }
 
-  pub done : (s : Sender) (bytes before after : List ℕ) (next : Sender) (g : ℕ) → Sofar s bytes before after next g
-      → length bytes / 40 ≤ g → length bytes % 40 ≡ 0 → Fills ed s bytes before after next
+  pub done : (s : Sender) (bytes before after : List ℕ) (next : Sender) (g : ℕ) → SentSofar s bytes before after next g
+      → length bytes / 40 ≤ g → length bytes % 40 ≡ 0 → SentInto ed s bytes before after next
   done s bytes before after next g inv l z =
       let e : g ≡ length bytes / 40 = omega arith in
       let n : 4 * g ≡ length bytes / 10 = omega arith in
       record {
-        sends = subst (λ (k : ℕ). Sends ed s (vectorsIn k bytes) (wordsFor ed s (vectorsIn k bytes)) next) n (inv .sends);
+        sends = subst (λ (k : ℕ). SentAs ed s (vectorsIn k bytes) (wordsFor ed s (vectorsIn k bytes)) next) n (inv .sends);
         room =
             inv .room
             ∙ ap₂ (λ (k i : ℕ). lineOf (wordsFor ed s (vectorsIn k bytes)) i ++ drop (33 * i) before) n e;

@@ -12,7 +12,7 @@ use Rattle.block.specs.declared.Edition.{Edition}
 use Rattle.block.specs.Block.{editionOf, editionCheck, controlCheck}
 use Rattle.diagrams.specs.Diagram.{stateNumber}
 use Rattle.diagrams.specs.declared.State.the-variants.{Init}
-use Rattle.sending.specs.Send.{vectorsOf, stateAfter, replaced, historyOver, blocksFor, sentLine}
+use Rattle.transmit.specs.Send.{vectorList, stateAfter, replaced, historyOver, blocksFor, sentLine}
 use Rattle.sending.specs.declared.Sent.{Sent}
 use Rattle.sending.specs.declared.Sent.the-variants.{Done, Refused}
 
@@ -35,7 +35,7 @@ pub data SendAnswer : Type 0 where
 -- the answer of a list that is not refused
 unfoldable pub sentFor : Edition → List ℕ → ℕ → SendAnswer
 sentFor ed bytes start =
-    sent (mirror (historyOver (mirror start) (blocksFor ed bytes))) (stateNumber (stateAfter ed Init (vectorsOf bytes))) (replaced ed Init (vectorsOf bytes))
+    sent (mirror (historyOver (mirror start) (blocksFor ed bytes))) (stateNumber (stateAfter ed Init (vectorList bytes))) (replaced ed Init (vectorList bytes))
 
 unfoldable pub sendAnswer : (edition : ℕ) → List ℕ → (start room : ℕ) → SendAnswer
 sendAnswer edition bytes start room = byVerdict (first (sendChecks edition bytes start room)) (sentFor (editionOf edition) bytes start) refused

@@ -1,4 +1,3 @@
-pub mod Send
 pub mod Answer
-pub mod Sends
-pub mod Over
+pub mod Whole
+pub mod Demand1

@@ -13,11 +13,11 @@ use Rattle.bits.specs.Bits.{bit, streamBit, lineBit, cut}
 use Rattle.bits.proofs.Laws.{length-cut, cut-same, bit-below, bit-above, bit-lt, is-number, number-same, stream-cut}
 use Rattle.bits.proofs.Lists.{cut-add, stream-left, stream-right}
 use Rattle.refusals.specs.First.{Check, check, Verdict, accepted, refused, first, byVerdict}
-use Rattle.slices.specs.Slices.{resultOf, after, wordAt, wordBytes, tooShort, summaryWith, counterWords}
+use Rattle.slices.specs.Slices.{resultOf, oneMoreAfter, wordAt, wordBytes, tooShort, summaryWith, counterWords}
 use Rattle.counters.specs.declared.Counters.{Counters}
 
 -- one more check that does not apply changes nothing
-head-first : (c : Check) (cs ds : List Check) → first cs ≡ first ds → first (c ∷ cs) ≡ first (c ∷ ds)
+pub head-first : (c : Check) (cs ds : List Check) → first cs ≡ first ds → first (c ∷ cs) ≡ first (c ∷ ds)
 unfolding first
 head-first c cs ds e = ap (λ (v : Verdict). cond (c .applies) (refused (c .number) (c .place)) v) e
 
@@ -25,25 +25,37 @@ pub skipped : (c : Check) (cs : List Check) → c .applies ≡ false → first (
 unfolding first
 skipped c cs e = rw e
 
-pub first-after : (k : ℕ) (c : Check) (cs : List Check) → c .applies ≡ false → first (after k c cs) ≡ first cs
+pub first-after : (k : ℕ) (c : Check) (cs : List Check) → c .applies ≡ false → first (oneMoreAfter k c cs) ≡ first cs
 first-after zero c cs e = skipped c cs e
 first-after (suc k) c [] e = skipped c [] e
-first-after (suc k) c (d ∷ cs) e = head-first d (after k c cs) cs (first-after k c cs e)
+first-after (suc k) c (d ∷ cs) e = head-first d (oneMoreAfter k c cs) cs (first-after k c cs e)
 
 -- a summary that is long enough
-pub long-first : (k n bytes : ℕ) (cs : List Check) → 8 * n ≤ bytes → first (after k (check 4 (tooShort 8 n bytes)) cs) ≡ first cs
+pub long-first : (k n bytes : ℕ) (cs : List Check) → 8 * n ≤ bytes → first (oneMoreAfter k (check 4 (tooShort 8 n bytes)) cs) ≡ first cs
 long-first k n bytes cs l = first-after k (check 4 (tooShort 8 n bytes)) cs (le-ltb bytes (8 * n) l)
-
--- What sending or receiving with no room comes to, where the summary is too short: an answer is refusal 4.
-abbrev pub shortOf : Verdict → ℕ
-shortOf accepted = 4
-shortOf (refused n p) = n + 256 * p
 
 -- a refusal leaves what it finds
 pub kept : {A : Type 0} (v : Verdict) (success before : A)
     → byVerdict v (byVerdict v success (λ n p. before)) (λ n p. before) ≡ byVerdict v success (λ n p. before)
 kept accepted success before = refl
 kept (refused n p) success before = refl
+
+-- ---- a refusal's place
+
+-- no check has one
+abbrev pub Placeless : List Check → Type 0
+Placeless [] = Unit
+Placeless (c ∷ cs) = (c .place ≡ 0) × Placeless cs
+
+place-row : (b : Bool) (m q n p : ℕ) (v : Verdict) → q ≡ 0 → (v ≡ refused n p → p ≡ 0) → cond b (refused m q) v ≡ refused n p → p ≡ 0
+place-row true m q n p v z h e = let w : q ≡ p = cc in omega arith
+place-row false m q n p v z h e = h e
+
+-- so a refusal's place is 0
+pub place-zero : (cs : List Check) → Placeless cs → (n p : ℕ) → first cs ≡ refused n p → p ≡ 0
+unfolding first
+place-zero [] k n p e = absurd (let z : _≡_ {A = ℕ} 0 1 = cc in omega arith)
+place-zero (c ∷ cs) k n p e = place-row (c .applies) (c .number) (c .place) n p (first cs) (k .0) (place-zero cs (k .1) n p) e
 
 -- ---- a result of 0
 

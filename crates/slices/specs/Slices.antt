@@ -18,8 +18,8 @@ resultOf accepted = 0
 resultOf (refused number place) = number + 256 * place
 
 -- a list of checks with one more after the first k
-abbrev pub after : ℕ → Check → List Check → List Check
-after k c checks = take k checks ++ c ∷ drop k checks
+abbrev pub oneMoreAfter : ℕ → Check → List Check → List Check
+oneMoreAfter k c checks = take k checks ++ c ∷ drop k checks
 
 -- ---- words of k bytes each, the lowest byte first
 

@@ -10,8 +10,8 @@ use Rattle.bits.proofs.Laws.{Words, none, more, number-lt}
 use Rattle.bits.proofs.Lists.{lineBit-lt}
 use Rattle.refusals.specs.First.{accepted}
 use Rattle.slices.specs.Slices.{wordAt, flagWord}
-use Rattle.bursts.specs.declared.State.{State}
-use Rattle.bursts.specs.Judging.{burstVerdict}
+use Rattle.kept_state.specs.declared.State.{State}
+use Rattle.judging.specs.Judging.{burstVerdict}
 use Rattle.bursts.specs.Burst.{stateFresh, burstState, closeState}
 use Rattle.bursts.proofs.Small.{largest, Small, small-fresh, small-next, small-close}
 use Rattle.stored.specs.Stored.{stateWords, stateIn, storedIn}

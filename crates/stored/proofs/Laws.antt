@@ -12,14 +12,48 @@ use Rattle.bits.proofs.Laws.{Words, number-same}
 use Rattle.bits.proofs.Lists.{words-lt}
 use Rattle.slices.specs.Slices.{wordAt, wordBytes, flagWord}
 use Rattle.slices.proofs.Laws.{word-back}
-use Rattle.bursts.specs.declared.State.{State}
+use Rattle.kept_state.specs.declared.State.{State}
 use Rattle.stored.specs.Stored.{stateWords, yes, stateBy, stateIn, storedIn}
 
 -- a state depends on its words alone
 pub state-same : (f g : ℕ → ℕ) → ((i : ℕ) → i < 29 → f i ≡ g i) → stateBy f ≡ stateBy g
 state-same f g e =
     let at : (i : ℕ) → i < 29 → f i ≡ g i = e in
-    rw (at 0 (omega arith), at 1 (omega arith), at 2 (omega arith), at 3 (omega arith), at 4 (omega arith), at 5 (omega arith), at 6 (omega arith), at 7 (omega arith), at 8 (omega arith), at 9 (omega arith), at 10 (omega arith), at 11 (omega arith), at 12 (omega arith), at 13 (omega arith), at 14 (omega arith), at 15 (omega arith), at 16 (omega arith), at 17 (omega arith), at 18 (omega arith), at 19 (omega arith), at 20 (omega arith), at 21 (omega arith), at 22 (omega arith), at 23 (omega arith), at 24 (omega arith), at 25 (omega arith), at 26 (omega arith), at 27 (omega arith), at 28 (omega arith))
+    rw (
+      at 0 (omega arith),
+      at 1 (omega arith),
+      at 2 (omega arith),
+      at 3 (omega arith),
+      at 4 (omega arith),
+      at 5 (omega arith),
+      at 6 (omega arith),
+      at 7
+          (omega arith),
+      at 8 (omega arith),
+      at 9 (omega arith),
+      at 10 (omega arith),
+      at 11 (omega arith),
+      at 12 (omega arith),
+      at 13 (omega arith),
+      at 14
+          (omega arith),
+      at 15 (omega arith),
+      at 16 (omega arith),
+      at 17 (omega arith),
+      at 18 (omega arith),
+      at 19 (omega arith),
+      at 20 (omega arith),
+      at 21
+          (omega arith),
+      at 22 (omega arith),
+      at 23 (omega arith),
+      at 24 (omega arith),
+      at 25 (omega arith),
+      at 26 (omega arith),
+      at 27 (omega arith),
+      at 28
+          (omega arith),
+    )
 
 -- a flag comes back
 flag-back : (b : Bool) → yes (flagWord b) ≡ b

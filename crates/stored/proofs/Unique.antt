@@ -2,7 +2,7 @@
 use Prim.Native.Nat.{ℕ}
 use mathlib.Core.Path.{_≡_, sym, _∙_}
 use mathlib.Core.List.{List}
-use Rattle.bursts.specs.declared.State.{State}
+use Rattle.kept_state.specs.declared.State.{State}
 use Rattle.stored.specs.Stored.{stateIn, storedIn}
 
 pub load-state-unique : (bytes : List ℕ) (a b : State) → a ≡ stateIn bytes → b ≡ stateIn bytes → a ≡ b

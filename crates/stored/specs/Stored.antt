@@ -6,7 +6,7 @@ use mathlib.Core.List.{List, [], _∷_, _++_}
 use lib.ListN.{drop}
 use lib.Dec.{eqb}
 use Rattle.slices.specs.Slices.{wordAt, wordBytes, flagWord}
-use Rattle.bursts.specs.declared.State.{State}
+use Rattle.kept_state.specs.declared.State.{State}
 
 abbrev pub stateLength : ℕ
 stateLength = 29

@@ -1,10 +1,10 @@
 // A state of a line that arrives in bursts, in lent bytes.
-use bursts::Kept;
-use bursts::State;
 use carrying::Carried;
-use diagrams::Lock;
-use diagrams::Rate;
+use kept_state::Kept;
+use kept_state::State;
 use line::load;
+use lock::Lock;
+use lock::Rate;
 use receiving::Counts;
 use receiving::Handed;
 use slices::flag;

@@ -1,3 +1,3 @@
 pub mod Low
-pub mod Types
+pub mod Entries
 pub mod Unique

@@ -1,13 +1,12 @@
 -- Any two answers that meet a public function's promise are equal.
 use mathlib.Core.Path.{_≡_, _∙_, sym}
-use mathlib.Core.List.{List}
 use Prim.Native.Nat.{ℕ}
 use lib.ListN.{getD}
 use Rattle.block.specs.declared.Edition.{Edition}
 use Rattle.block.specs.declared.Kind.{Kind}
 use Rattle.block.specs.Block.{editionOf, twoWords, kindFor}
 use Rattle.block.specs.Rows.{row}
-use Rattle.tables.specs.Tables.{types}
+use Rattle.block.specs.Types.{types}
 
 pub type-row-unique : (y r r′ : ℕ) → r ≡ getD types y 0 → r′ ≡ getD types y 0 → r ≡ r′
 type-row-unique y r r′ p q = p ∙ sym q

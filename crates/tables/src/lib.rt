@@ -4,7 +4,8 @@ ghost use Prim.Native.Nat.{_<_};
 ghost use lib.ListN.{getD};
 ghost use Rattle.block.specs.Block.{editionOf, twoWords, lowPower, kindFor};
 ghost use Rattle.block.specs.Rows.{row};
-ghost use Rattle.tables.specs.Tables.{types, typeWord};
+ghost use Rattle.block.specs.Types.{types};
+ghost use Rattle.tables.specs.Tables.{typeWord};
 use block::Edition;
 use block::Kind;
 

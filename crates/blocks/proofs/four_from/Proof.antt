@@ -96,8 +96,14 @@ shl-t40 c = search needs
 
 returns : tie.Need-returns
 returns c =
-    fours (now (c .before .before .before .before .before .before .args .s)) (c .before .before .before .before .before .before .args .at) (c .before .before .before .before .before .before .args .sh) (c .before .before .before .before .load .result) (c .before .before .before .load2 .result) (c .before .before .load3 .result) (c .before .load4 .result) (c .load-two .result) (c .before .before .before .before .before .before .pre .1)
-    (c .before .before .before .before .load .ensures) (c .before .before .before .load2 .ensures) (c .before .before .load3 .ensures) (c .before .load4 .ensures) (c .load-two .ensures)
+    let args = c .before .before .before .before .before .before .args in
+    let pre = c .before .before .before .before .before .before .pre in
+    let load = c .before .before .before .before .load in
+    let load2 = c .before .before .before .load2 in
+    let load3 = c .before .before .load3 in
+    let load4 = c .before .load4 in
+    fours (now (args .s)) (args .at) (args .sh) (load .result) (load2 .result) (load3 .result) (load4 .result) (c .load-two .result) (pre .1) (load .ensures)
+    (load2 .ensures) (load3 .ensures) (load4 .ensures) (c .load-two .ensures)
 
 pub four-from-spec : {M : Type 1} → statement M
 four-from-spec =

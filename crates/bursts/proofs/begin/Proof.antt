@@ -7,13 +7,13 @@ use borrow.Author.Needs.{needs}
 use borrow.Author.Tests.{lt-ltb, le-ltb}
 use Rattle.bits.specs.Bits.{number}
 use Rattle.refusals.specs.First.{first}
-use Rattle.diagrams.specs.Lock.{lockFresh}
-use Rattle.diagrams.specs.Rate.{rateFresh}
+use Rattle.lock.specs.Lock.{lockFresh}
+use Rattle.lock.specs.Rate.{rateFresh}
 use Rattle.receiving.specs.Parts.{noCounts, noneHanded}
 use Rattle.receiving.specs.declared.Counts.{Counts}
 use Rattle.receiving.specs.declared.Handed.{Handed}
-use Rattle.bursts.specs.declared.Kept.{Kept}
-use Rattle.bursts.specs.Meaning.{keptFor}
+use Rattle.kept_state.specs.declared.Kept.{Kept}
+use Rattle.kept_state.specs.Meaning.{keptFor}
 use Rattle.bursts.specs.Burst.{begun, refused, stateFresh, beginAnswer}
 use Rattle.bursts.proofs.begin.Statement.{statement}
 use Rattle.bursts.proofs.begin.Tie as tie

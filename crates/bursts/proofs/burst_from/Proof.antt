@@ -6,10 +6,23 @@ use Rattle.bursts.proofs.burst_from.Statement.{statement}
 use Rattle.bursts.proofs.burst_from.Tie as tie
 
 receive-more-requires : tie.Need-receive-more-requires
-receive-more-requires c κs = (short (c .before .before .before .args .s) (now (c .before .before .before .args .line)) (now (c .before .before .before .args .room)) (c .before .before .before .pre .passes), c .before .before .before .pre .means .range, c .before .before .before .pre .means .sound, written-fits (c .before .before .before .args .s) (now (c .before .before .before .args .line)) (now (c .before .before .before .args .room)) (c .before .before .before .pre .passes) (c .before .before .before .args .start) (c .before .before .before .pre .means))
+receive-more-requires c κs =
+    let args = c .before .before .before .args in
+    let pre = c .before .before .before .pre in (
+      short (args .s) (now (args .line)) (now (args .room)) (pre .passes),
+      pre .means .range,
+      pre .means .sound,
+      written-fits (args .s) (now (args .line))
+          (now (args .room)) (pre .passes) (args .start) (pre .means),
+    )
 
 next-state-requires : tie.Need-next-state-requires
-next-state-requires c κs = next-fits (c .before .before .before .before .before .before .args .s) (now (c .before .before .before .before .before .before .args .line)) (now (c .before .before .before .before .before .before .args .room)) (c .before .before .before .before .before .before .pre .passes) (c .before .before .before .before .before .before .args .start) (c .before .before .before .before .before .before .pre .means) (c .before .before .receive-more .last .1 .0) (c .before .before .receive-more .result) (c .before .before .receive-more .ensures)
+next-state-requires c κs =
+    let args = c .before .before .before .before .before .before .args in
+    let pre = c .before .before .before .before .before .before .pre in
+    let receive-more = c .before .before .receive-more in
+    next-fits (args .s) (now (args .line)) (now (args .room)) (pre .passes) (args .start) (pre .means) (receive-more .last .1 .0) (receive-more .result)
+    (receive-more .ensures)
 
 accepted-requires : tie.Need-accepted-requires
 accepted-requires c κs = search needs
@@ -18,7 +31,14 @@ same-length : tie.Need-same-length
 same-length c = c .before .before .before .before .before .before .receive-more .ensures .len
 
 returns : tie.Need-returns
-returns c = burst-is (c .before .before .before .before .before .before .before .before .before .before .args .s) (now (c .before .before .before .before .before .before .before .before .before .before .args .line)) (now (c .before .before .before .before .before .before .before .before .before .before .args .room)) (c .before .before .before .before .before .before .before .before .before .before .pre .passes) (c .before .before .before .before .before .before .before .before .before .before .args .start) (c .before .before .before .before .before .before .before .before .before .before .pre .means) (c .before .before .before .before .before .before .receive-more .last .1 .0) (c .before .before .before .before .before .before .receive-more .result) (c .before .before .before .before .before .before .receive-more .ensures) (c .before .before .before .next-state .result) (c .accepted .result) (c .before .before .before .next-state .ensures) (c .accepted .ensures .0) (c .accepted .ensures .1) (c .accepted .ensures .2)
+returns c =
+    let args = c .before .before .before .before .before .before .before .before .before .before .args in
+    let pre = c .before .before .before .before .before .before .before .before .before .before .pre in
+    let receive-more = c .before .before .before .before .before .before .receive-more in
+    let next-state = c .before .before .before .next-state in
+    burst-is (args .s) (now (args .line)) (now (args .room)) (pre .passes) (args .start) (pre .means) (receive-more .last .1 .0) (receive-more .result)
+    (receive-more .ensures) (next-state .result) (c .accepted .result) (next-state .ensures) (c .accepted .ensures .0) (c .accepted .ensures .1)
+    (c .accepted .ensures .2)
 
 pub burst-from-spec : {M : Type 1} → statement M
 burst-from-spec =

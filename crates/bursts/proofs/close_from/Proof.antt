@@ -25,11 +25,19 @@ none-handed-requires : tie.Need-none-handed-requires
 none-handed-requires c κs = search needs
 
 receive-last-requires : tie.Need-receive-last-requires
-receive-last-requires c κs = (last-fits (c .before .before .before .args .s) (now (c .before .before .before .args .room)) (c .before .before .before .pre .passes) (c .before .before .before .args .start) (c .before .before .before .pre .means), none-within (c .none-handed .result) (c .none-handed .ensures))
+receive-last-requires c κs =
+    let args = c .before .before .before .args in
+    let pre = c .before .before .before .pre in
+    (last-fits (args .s) (now (args .room)) (pre .passes) (args .start) (pre .means), none-within (c .none-handed .result) (c .none-handed .ensures))
 
 closed-state-requires : tie.Need-closed-state-requires
 closed-state-requires c κs =
-    close-fits (c .before .before .before .before .before .before .before .args .s) (now (c .before .before .before .before .before .before .before .args .room)) (c .before .before .before .before .before .before .before .pre .passes) (c .before .before .before .before .before .before .before .args .start) (c .before .before .before .before .before .before .before .pre .means) (c .before .before .before .receive-last .result .handed) (counted (c .before .before .before .before .before .before .before .args .start) (c .before .before .before .before .none-handed .result) (c .before .before .before .receive-last .result .handed) (c .before .before .before .receive-last .ensures .1) (c .before .before .before .before .none-handed .ensures))
+    let args = c .before .before .before .before .before .before .before .args in
+    let pre = c .before .before .before .before .before .before .before .pre in
+    let none-handed = c .before .before .before .before .none-handed in
+    let receive-last = c .before .before .before .receive-last in
+    close-fits (args .s) (now (args .room)) (pre .passes) (args .start) (pre .means) (receive-last .result .handed)
+    (counted (args .start) (none-handed .result) (receive-last .result .handed) (receive-last .ensures .1) (none-handed .ensures))
 
 no-counts-requires : tie.Need-no-counts-requires
 no-counts-requires c κs = search needs
@@ -39,14 +47,26 @@ accepted-requires c κs = search needs
 
 same-length : tie.Need-same-length
 same-length c =
-    close-length (c .before .before .before .before .before .before .before .before .before .before .args .s) (now (c .before .before .before .before .before .before .before .before .before .before .args .room)) (c .before .before .before .before .before .before .before .before .before .before .pre .passes) (c .before .before .before .before .before .before .before .before .before .before .args .start) (c .before .before .before .before .before .before .before .before .before .before .pre .means) (c .before .before .before .before .before .before .receive-last .result .handed) (counted (c .before .before .before .before .before .before .before .before .before .before .args .start) (c .before .before .before .before .before .before .before .none-handed .result) (c .before .before .before .before .before .before .receive-last .result .handed) (c .before .before .before .before .before .before .receive-last .ensures .1) (c .before .before .before .before .before .before .before .none-handed .ensures))
-    (c .before .before .before .before .before .before .receive-last .last .0) (c .before .before .before .before .before .before .receive-last .ensures .0)
+    let args = c .before .before .before .before .before .before .before .before .before .before .args in
+    let pre = c .before .before .before .before .before .before .before .before .before .before .pre in
+    let none-handed = c .before .before .before .before .before .before .before .none-handed in
+    let receive-last = c .before .before .before .before .before .before .receive-last in
+    close-length (args .s) (now (args .room)) (pre .passes) (args .start) (pre .means) (receive-last .result .handed)
+    (counted (args .start) (none-handed .result) (receive-last .result .handed) (receive-last .ensures .1) (none-handed .ensures)) (receive-last .last .0)
+    (receive-last .ensures .0)
 
 returns : tie.Need-returns
 returns c =
-    close-is (c .before .before .before .before .before .before .before .before .before .before .args .s) (now (c .before .before .before .before .before .before .before .before .before .before .args .room)) (c .before .before .before .before .before .before .before .before .before .before .pre .passes) (c .before .before .before .before .before .before .before .before .before .before .args .start) (c .before .before .before .before .before .before .before .before .before .before .pre .means) (c .before .before .before .before .before .before .receive-last .result .handed) (counted (c .before .before .before .before .before .before .before .before .before .before .args .start) (c .before .before .before .before .before .before .before .none-handed .result) (c .before .before .before .before .before .before .receive-last .result .handed) (c .before .before .before .before .before .before .receive-last .ensures .1) (c .before .before .before .before .before .before .before .none-handed .ensures))
-    (c .before .before .before .before .before .before .receive-last .last .0) (c .before .before .before .before .before .before .receive-last .ensures .0) (c .before .before .closed-state .result) (c .before .before .before .before .before .before .receive-last .result .alone) (c .before .no-counts .result) (c .accepted .result) (c .before .before .closed-state .ensures)
-    (c .before .before .before .before .before .before .receive-last .ensures .2) (c .before .no-counts .ensures) (c .accepted .ensures .0) (c .accepted .ensures .1) (c .accepted .ensures .2)
+    let args = c .before .before .before .before .before .before .before .before .before .before .args in
+    let pre = c .before .before .before .before .before .before .before .before .before .before .pre in
+    let none-handed = c .before .before .before .before .before .before .before .none-handed in
+    let receive-last = c .before .before .before .before .before .before .receive-last in
+    let closed-state = c .before .before .closed-state in
+    let no-counts = c .before .no-counts in
+    close-is (args .s) (now (args .room)) (pre .passes) (args .start) (pre .means) (receive-last .result .handed)
+    (counted (args .start) (none-handed .result) (receive-last .result .handed) (receive-last .ensures .1) (none-handed .ensures)) (receive-last .last .0)
+    (receive-last .ensures .0) (closed-state .result) (receive-last .result .alone) (no-counts .result) (c .accepted .result) (closed-state .ensures)
+    (receive-last .ensures .2) (no-counts .ensures) (c .accepted .ensures .0) (c .accepted .ensures .1) (c .accepted .ensures .2)
 
 pub close-from-spec : {M : Type 1} → statement M
 close-from-spec =

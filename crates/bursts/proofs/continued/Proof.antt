@@ -3,8 +3,8 @@ use mathlib.Core.Path.{sym, ap, _∙_}
 use mathlib.Core.Bool.{true, false}
 use denote.Ref.{now}
 use lib.ListN.{length}
-use Rattle.bursts.specs.Coded.{verdictOf}
-use Rattle.bursts.proofs.Checks.{passed-all}
+use Rattle.judging.specs.Coded.{verdictSaid}
+use Rattle.judging.proofs.Checks.{within-limits, passed-all}
 use Rattle.bursts.proofs.Going.{either-refused, which-passes, which-replies}
 use borrow.Author.Needs.{needs}
 use Rattle.bursts.proofs.continued.Statement.{statement}
@@ -26,28 +26,67 @@ enum-told : tie.Need-enum-told
 enum-told c = search needs
 
 receiver-of-requires : tie.Need-receiver-of-requires
-receiver-of-requires c κs = passed-all (c .before .before .before .before .before .before .args .s) (c .before .before .before .taken .result) (length (now (c .before .before .before .before .before .before .args .room))) (sym (c .before .before .judge .ensures) ∙ ap verdictOf (c .enum-told .given .1)) .good
+receiver-of-requires c κs =
+    let s = c .before .before .before .before .before .before .args .s in
+    let room = now (c .before .before .before .before .before .before .args .room) in
+    within-limits s (passed-all s (c .before .before .before .taken .result) (length room) (sym (c .before .before .judge .ensures) ∙ ap verdictSaid (c .enum-told .given .1)) .good)
 
 close-from-requires : tie.Need-close-from-requires
-close-from-requires c κs = record { passes = which-passes (c .before .before .before .before .before .before .before .before .before .args .s) (now (c .before .before .before .before .before .before .before .before .before .args .line)) (now (c .before .before .before .before .before .before .before .before .before .args .room)) (c .before .before .before .before .before .before .before .before .before .args .closing) true (c .before .if1 .taken) (c .before .before .before .before .before .before .taken .result) (c .before .before .before .before .before .before .taken .ensures) (sym (c .before .before .before .before .before .judge .ensures) ∙ ap verdictOf (c .before .before .before .enum-told .given .1)); means = c .before .before .receiver-of .ensures }
+close-from-requires c κs =
+    let args = c .before .before .before .before .before .before .before .before .before .args in
+    let taken = c .before .before .before .before .before .before .taken in
+    let judge = c .before .before .before .before .before .judge in
+    let enum-told = c .before .before .before .enum-told in
+    let receiver-of = c .before .before .receiver-of in
+    let if1 = c .before .if1 in
+    record {
+      passes = which-passes (args .s) (now (args .line)) (now (args .room)) (args .closing) true (if1 .taken) (taken .result) (taken .ensures) (sym (judge .ensures) ∙ ap verdictSaid
+          (enum-told .given .1));
+      means = receiver-of .ensures;
+    }
 
 same-length : tie.Need-same-length
 same-length c = search needs
 
 returns : tie.Need-returns
-returns c = which-replies (c .before .before .before .before .before .before .before .before .before .before .before .before .args .s) (now (c .before .before .before .before .before .before .before .before .before .before .before .before .args .line)) (now (c .before .before .before .before .before .before .before .before .before .before .before .before .args .room)) (c .before .before .before .before .before .before .before .before .before .before .before .before .args .closing) true (c .before .before .before .before .if1 .taken) (c .before .before .close-from .result) _ (c .before .before .close-from .ensures)
+returns c =
+    let args = c .before .before .before .before .before .before .before .before .before .before .before .before .args in
+    let if1 = c .before .before .before .before .if1 in
+    let close-from = c .before .before .close-from in
+    which-replies (args .s) (now (args .line)) (now (args .room)) (args .closing) true (if1 .taken) (close-from .result) _ (close-from .ensures)
 
 burst-from-requires : tie.Need-burst-from-requires
-burst-from-requires c κs = record { passes = which-passes (c .before .before .before .before .before .before .before .before .before .args .s) (now (c .before .before .before .before .before .before .before .before .before .args .line)) (now (c .before .before .before .before .before .before .before .before .before .args .room)) (c .before .before .before .before .before .before .before .before .before .args .closing) false (c .before .if1 .left) (c .before .before .before .before .before .before .taken .result) (c .before .before .before .before .before .before .taken .ensures) (sym (c .before .before .before .before .before .judge .ensures) ∙ ap verdictOf (c .before .before .before .enum-told .given .1)); means = c .before .before .receiver-of .ensures }
+burst-from-requires c κs =
+    let args = c .before .before .before .before .before .before .before .before .before .args in
+    let taken = c .before .before .before .before .before .before .taken in
+    let judge = c .before .before .before .before .before .judge in
+    let enum-told = c .before .before .before .enum-told in
+    let receiver-of = c .before .before .receiver-of in
+    let if1 = c .before .if1 in
+    record {
+      passes = which-passes (args .s) (now (args .line)) (now (args .room)) (args .closing) false (if1 .left) (taken .result) (taken .ensures) (sym (judge .ensures) ∙ ap verdictSaid
+          (enum-told .given .1));
+      means = receiver-of .ensures;
+    }
 
 returns-2 : tie.Need-returns-2
-returns-2 c = either-refused (c .before .before .before .before .before .before .before .before .args .s) (now (c .before .before .before .before .before .before .before .before .args .line)) (now (c .before .before .before .before .before .before .before .before .args .room)) _ (c .refused .result) (c .refused .ensures .0) (c .refused .ensures .1) (c .refused .ensures .2) (c .before .before .before .before .before .before .before .before .args .closing) (c .before .before .before .before .before .taken .result) (c .before .before .before .before .before .taken .ensures) (sym (ap verdictOf (c .before .before .why .given .1)) ∙ c .before .before .before .before .judge .ensures)
+returns-2 c =
+    let args = c .before .before .before .before .before .before .before .before .args in
+    let taken = c .before .before .before .before .before .taken in
+    let judge = c .before .before .before .before .judge in
+    let why = c .before .before .why in
+    either-refused (args .s) (now (args .line)) (now (args .room)) _ (c .refused .result) (c .refused .ensures .0) (c .refused .ensures .1)
+    (c .refused .ensures .2) (args .closing) (taken .result) (taken .ensures) (sym (ap verdictSaid (why .given .1)) ∙ judge .ensures)
 
 same-length-2 : tie.Need-same-length-2
 same-length-2 c = search needs
 
 returns-3 : tie.Need-returns-3
-returns-3 c = which-replies (c .before .before .before .before .before .before .before .before .before .before .before .before .args .s) (now (c .before .before .before .before .before .before .before .before .before .before .before .before .args .line)) (now (c .before .before .before .before .before .before .before .before .before .before .before .before .args .room)) (c .before .before .before .before .before .before .before .before .before .before .before .before .args .closing) false (c .before .before .before .before .if1 .left) (c .before .before .burst-from .result) _ (c .before .before .burst-from .ensures)
+returns-3 c =
+    let args = c .before .before .before .before .before .before .before .before .before .before .before .before .args in
+    let if1 = c .before .before .before .before .if1 in
+    let burst-from = c .before .before .burst-from in
+    which-replies (args .s) (now (args .line)) (now (args .room)) (args .closing) false (if1 .left) (burst-from .result) _ (burst-from .ensures)
 
 pub continued-spec : {M : Type 1} → statement M
 continued-spec =

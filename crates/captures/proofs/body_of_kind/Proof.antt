@@ -20,7 +20,9 @@ enum-known-k : tie.Need-enum-known-k
 enum-known-k c = search needs
 
 -- what the reader found, in the arm of a whole record
-found : (c : tie.After-known-told2) → readAt bodyLimit (now (c .before .before .before .before .before .args .file)) (c .before .before .before .before .before .args .at) ≡ Record.whole (c .before .k .given .0 .0) (c .before .k .given .0 .1 .0) (c .before .k .given .0 .1 .1 .0) (c .before .k .given .0 .1 .1 .1 .0)
+found : (c : tie.After-known-told2) → readAt bodyLimit (now (c .before .before .before .before .before .args .file))
+    (c .before .before .before .before .before .args .at) ≡ Record.whole (c .before .k .given .0 .0) (c .before .k .given .0 .1 .0)
+    (c .before .k .given .0 .1 .1 .0) (c .before .k .given .0 .1 .1 .1 .0)
 found c = sym (c .before .before .before .read .ensures) ∙ ap answerOf (c .before .k .given .1)
 
 returns : tie.Need-returns

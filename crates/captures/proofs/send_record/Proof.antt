@@ -34,7 +34,13 @@ same-length : tie.Need-same-length
 same-length c = search needs
 
 returns-3 : tie.Need-returns-3
-returns-3 c = at-body _ _ _ _ _ _ _ (ap body (c .before .before .before .before .body .ensures) ∙ sym (ap (foundOf (now (c .before .before .before .before .before .before .before .before .before .before .before .args .file))) (c .before .before .before .before .before .before .start .given .1)) ∙ c .before .before .before .before .before .before .before .before .body-of-kind .ensures) (c .before .before .send .ensures .0) (c .before .before .send .ensures .1)
+returns-3 c =
+    let args = c .before .before .before .before .before .before .before .before .before .before .before .args in
+    let body-of-kind = c .before .before .before .before .before .before .before .before .body-of-kind in
+    let send = c .before .before .send in
+    at-body _ _ _ _ _ _ _
+    (ap body (c .before .before .before .before .body .ensures) ∙ sym (ap (foundOf (now (args .file))) (c .before .before .before .before .before .before .start .given .1)) ∙ body-of-kind .ensures)
+    (send .ensures .0) (send .ensures .1)
 
 pub send-record-spec : {M : Type 1} → statement M
 send-record-spec =

@@ -1,5 +1,8 @@
--- `counters::receive` meets its contract: a walk of its MIR, by hand. The borrow of the counters is opened, the whole record is copied out and passed to `receive_by_value` with the edition and the two slices; of what it answers the counters are stored, the borrow is closed at them, and the answer is returned.
--- The edition is a number, so what it owns is given up at the entry and made again where it is asked, at the call and at the exit. The line is shared, so what it owns is had twice, and one copy is kept for the exit. The room is given up for good, at its own lifetime and name (`gave-slice`). All that the walk knows of `receive_by_value` is its contract. Assumes nothing.
+-- `counters::receive` meets its contract: a walk of its MIR, by hand. The borrow of the counters is opened, the whole record is copied out and passed to
+-- `receive_by_value` with the edition and the two slices; of what it answers the counters are stored, the borrow is closed at them, and the answer is
+-- returned. The edition is a number, so what it owns is given up at the entry and made again where it is asked, at the call and at the exit. The line is
+-- shared, so what it owns is had twice, and one copy is kept for the exit. The room is given up for good, at its own lifetime and name (`gave-slice`).
+-- All that the walk knows of `receive_by_value` is its contract. Assumes nothing.
 use mathlib.Core.Path.{_≡_, refl, ap}
 use Prim.Native.Nat.{ℕ, _<_, _^_}
 use mathlib.Core.List.{[], _∷_, List}
@@ -141,7 +144,11 @@ module _ {M : Type 1} (𝓤 : URA M) (H : Heap 𝓤) (A : Atoms 𝓤) (W : Given
 
   -- the walk's end: what is owned then, with what the call promised, is what the contract says
   exits : edition < 2 ^ 64 → (r : Counted) (zs : List ℕ) → length zs ≡ length ys → Met r zs
-      → ent 𝓤 (⋆ 𝓤 H A (‵ (fobs γ (T.the-row .coded .code (r .counters))) ∷ ‵ (fbor κ″ (Body (mem T.the-row) b o γ)) ∷ ‵ (flft κ″ q″) ∷ ‵ (E.the-row .own (r .answer) (machA (r .answer) ∷ [])) ∷ (‵ (flft κ q) ⊛ ‵ (flft κ′ q′) ⊛ ‵ ftrue) ∷ ‵ (finally u8 γ′ zs) ∷ ‵ Line ∷ [])) (Post (machA (r .answer)))
+      → ent 𝓤
+      (⋆ 𝓤 H A
+      (‵ (fobs γ (T.the-row .coded .code (r .counters))) ∷ ‵ (fbor κ″ (Body (mem T.the-row) b o γ)) ∷ ‵ (flft κ″ q″) ∷ ‵
+      (E.the-row .own (r .answer) (machA (r .answer) ∷ [])) ∷ (‵ (flft κ q) ⊛ ‵ (flft κ′ q′) ⊛ ‵ ftrue) ∷ ‵ (finally u8 γ′ zs) ∷ ‵ Line ∷ []))
+      (Post (machA (r .answer)))
   exits small r zs l met =
       qed W (‵ (fobs γ (T.the-row .coded .code (r .counters))) ∷ ‵ (fbor κ″ (Body (mem T.the-row) b o γ)) ∷ ‵ (flft κ″ q″) ∷ ‵ (E.the-row .own (r .answer) (machA (r .answer) ∷ [])) ∷ (‵ (flft κ q) ⊛ ‵ (flft κ′ q′) ⊛ ‵ ftrue) ∷ ‵ (finally u8 γ′ zs) ∷ ‵ Line ∷ []) ∵
       suffices ! _ (ends-at 𝓤 H A receive.ended stayed (receive.clauses 𝓤 H A at-mem run) W (((κ, (κ′, (κ″, tt))), (q, (q′, (q″, tt))), tt, a, vals), tt) (machA (r .answer)) (r .answer) (tt, (tt, (zs, (r .counters, tt)))) (tt, (tt, (l, (tt, tt))))) $
@@ -172,7 +179,10 @@ module _ {M : Type 1} (𝓤 : URA M) (H : Heap 𝓤) (A : Atoms 𝓤) (W : Given
         assigns ! (of-opd ! (load ! (from ! (hop ! (look ! 15 refl) (stop !))) (look-raw ! 1 refl))) (from ! (stop !)) (init ! 5 refl (LL.lawful T.the-type T′.the-laws 𝓤 H A W .typed h _ ic .0)) $
         move ! (25 ∷ 26 ∷ 27 ∷ 28 ∷ 0 ∷ []) $ group ! 5 $ use1 W (raw (ByValue 𝓤 H A at-mem run .pre to)) (goes small) $
         -- [the call's `pre`; the cell; the open borrow; obs; auth; _9; …; _0; …; the line again]
-        calls-at ! fm (ByValue 𝓤 H A at-mem run) known to (and-then ! (load ! (from ! (stop !)) (look ! 21 refl)) (and-then ! (load ! (from ! (stop !)) (look ! 19 refl)) (and-then ! (load ! (from ! (stop !)) (look ! 7 refl)) (and-then ! (load ! (from ! (stop !)) (look ! 5 refl)) (no-more !))))) (λ w.
+        calls-at ! fm (ByValue 𝓤 H A at-mem run) known to
+        (and-then ! (load ! (from ! (stop !)) (look ! 21 refl))
+        (and-then ! (load ! (from ! (stop !)) (look ! 19 refl))
+        (and-then ! (load ! (from ! (stop !)) (look ! 7 refl)) (and-then ! (load ! (from ! (stop !)) (look ! 5 refl)) (no-more !))))) (λ w.
         use1 W (later (some (λ (r : Counted). ((‵ (flft κ q) ⊛ ‵ (flft κ′ q′) ⊛ ‵ ftrue) ⊛ ‵ (D.the-row .own r (w ∷ []))) ⊛ raw (ensured 𝓤 H A by-value.ended (by-value.clauses 𝓤 H A at-mem run) (κ, (κ′, tt)) passed tt r)))) (id⊢ 𝓤 _) $ await ! tt $ pick ! (λ r.
         split ! $ move ! (1 ∷ []) $
         use1 W (some (λ (zs : Lasts by-value.ended (κ, (κ′, tt)) passed). ‵ (lasts by-value.ended (κ, (κ′, tt)) passed zs) ⊛ raw (fact 𝓤 (Met r (zs .1 .1 .0))))) (id⊢ 𝓤 _) $ pick ! (λ zs.
@@ -192,7 +202,9 @@ module _ {M : Type 1} (𝓤 : URA M) (H : Heap 𝓤) (A : Atoms 𝓤) (W : Given
         move ! (6 ∷ 0 ∷ 7 ∷ 8 ∷ 9 ∷ []) $ closes ! tt T.the-row (r .counters) (machC (r .counters) ∷ []) b o $
         -- [obs; the borrow; the third token; what the answer owns; true; the tokens; the last list; true; _9; …; _0; …; the line again]
         returns ! (look ! 26 refl) $ forget ! 8 refl $ forget ! 10 refl $ forget ! 12 refl $ forget ! 14 refl $ forget ! 16 refl $ forget ! 18 refl $ forget ! 20 refl $ forget ! 22 refl $ forget ! 24 refl $ forget ! 26 refl $
-        move ! (26 ∷ 27 ∷ []) $ free1 ! $ move ! (24 ∷ 25 ∷ []) $ free1 ! $ move ! (22 ∷ 23 ∷ []) $ free1 ! $ move ! (20 ∷ 21 ∷ []) $ free1 ! $ move ! (18 ∷ 19 ∷ []) $ free1 ! $ move ! (16 ∷ 17 ∷ []) $ free1 ! $ move ! (14 ∷ 15 ∷ []) $ free1 ! $ move ! (12 ∷ 13 ∷ []) $ free1 ! $ move ! (10 ∷ 11 ∷ []) $ free1 ! $ move ! (8 ∷ 9 ∷ []) $ free1 ! $ free0 ! $
+        move ! (26 ∷ 27 ∷ []) $ free1 ! $ move ! (24 ∷ 25 ∷ []) $ free1 ! $ move ! (22 ∷ 23 ∷ []) $ free1 ! $ move ! (20 ∷ 21 ∷ []) $ free1 ! $ move !
+        (18 ∷ 19 ∷ []) $ free1 ! $ move ! (16 ∷ 17 ∷ []) $ free1 ! $ move ! (14 ∷ 15 ∷ []) $ free1 ! $ move ! (12 ∷ 13 ∷ []) $ free1 ! $ move ! (10 ∷ 11 ∷ []) $
+        free1 ! $ move ! (8 ∷ 9 ∷ []) $ free1 ! $ free0 ! $
         keep ! (0 ∷ 1 ∷ 2 ∷ 3 ∷ 5 ∷ 6 ∷ 8 ∷ []) $ by ! (exits small r (zs .1 .1 .0) l met))))))))))))))))))))))
 
 module _ {M : Type 1} (𝓤 : URA M) (H : Heap 𝓤) (A : Atoms 𝓤) (W : Given 𝓤 H A) (at-mem : Memory → SProp 𝓤) (run : Routine → Fun 𝓤) where
@@ -201,7 +213,9 @@ module _ {M : Type 1} (𝓤 : URA M) (H : Heap 𝓤) (A : Atoms 𝓤) (W : Given
   receive-walks C Λ fm known = walked 𝓤 H A receive.ended stayed (receive.clauses 𝓤 H A at-mem run) (WpFn 𝓤 H C Λ code.function) (λ κs. (uint-vals w64, (slice-vals, (slice-vals, (ptr-vals, tt)))))
       (λ κs. (uint-tells w64, (shr-slice-tells (named 0) (κs .0) u8, (mut-slice-tells (named 1) (κs .1 .0) u8, (mut-tells (named 2) (κs .1 .1 .0) T.the-row, tt)))))
       (λ κs qs bounds a _ are. via 𝓤 _ (fst∗ 𝓤 _ (emp 𝓤))
-      (walk 𝓤 H A W at-mem run (κs .0) (κs .1 .0) (κs .1 .1 .0) (qs .0) (qs .1 .0) (qs .1 .1 .0) (a .0) (a .1 .0) (a .1 .1 .0 .ptr .0) (a .1 .1 .0 .ptr .1) (a .1 .1 .0 .name) (a .1 .1 .0 .now) (a .1 .1 .1 .0 .ptr .0) (a .1 .1 .1 .0 .ptr .1) (a .1 .1 .1 .0 .name) (a .1 .1 .1 .0 .now) C Λ fm known (are .0 .1) (are .1 .0) (are .1 .1 .0 .0 .1)))
+      (walk 𝓤 H A W at-mem run (κs .0) (κs .1 .0) (κs .1 .1 .0) (qs .0) (qs .1 .0) (qs .1 .1 .0) (a .0) (a .1 .0) (a .1 .1 .0 .ptr .0) (a .1 .1 .0 .ptr .1)
+      (a .1 .1 .0 .name) (a .1 .1 .0 .now) (a .1 .1 .1 .0 .ptr .0) (a .1 .1 .1 .0 .ptr .1) (a .1 .1 .1 .0 .name) (a .1 .1 .1 .0 .now) C Λ fm known (are .0 .1)
+      (are .1 .0) (are .1 .1 .0 .0 .1)))
 
   -- what is had of each parameter gives what the contract says of it
   gone : AllGo 𝓤 H A W 3 (receive.signature .params) (receive.ended .kept) stayed

@@ -36,13 +36,16 @@ same-length : tie.Need-same-length
 same-length c = search needs
 
 returns : tie.Need-returns
-returns c = (
-  (
-    ap answerOf (sym (c .before .before .before .before .answer .given .1)) ∙ c .before .before .before .before .before .before .before .before .receive .ensures .0,
-    c .before .before .before .before .before .before .before .before .receive .ensures .1,
-  ),
-  summed (c .before .before .before .before .before .before .before .before .before .before .before .before .args .c) (c .add-counts .result) (c .before .before .before .before .before .before .before .before .receive .result) _ _ (c .before .before .before .before .answer .given .1) (c .before .before .before .before .before .before .before .before .receive .ensures .0) (c .add-counts .ensures),
-)
+returns c =
+    let args = c .before .before .before .before .before .before .before .before .before .before .before .before .args in
+    let receive = c .before .before .before .before .before .before .before .before .receive in
+    let answer = c .before .before .before .before .answer in (
+      (
+        ap answerOf (sym (answer .given .1)) ∙ receive .ensures .0,
+        receive .ensures .1,
+      ),
+      summed (args .c) (c .add-counts .result) (receive .result) _ _ (answer .given .1) (receive .ensures .0) (c .add-counts .ensures),
+    )
 
 same-length-2 : tie.Need-same-length-2
 same-length-2 c = search needs

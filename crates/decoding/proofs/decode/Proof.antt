@@ -24,7 +24,11 @@ decode-control-requires : tie.Need-decode-control-requires
 decode-control-requires c κs = search needs
 
 returns-3 : tie.Need-returns-3
-returns-3 c = of-control (c .before .before .before .before .before .before .before .args .edition) (c .before .before .before .before .before .before .before .args .header) (c .before .before .before .before .before .before .before .args .payload) _ _ (c .before .before .if3 .taken) (c .before .decode-control .ensures)
+returns-3 c =
+    let args = c .before .before .before .before .before .before .before .args in
+    let if3 = c .before .before .if3 in
+    let decode-control = c .before .decode-control in
+    of-control (args .edition) (args .header) (args .payload) _ _ (if3 .taken) (decode-control .ensures)
 
 bad-requires : tie.Need-bad-requires
 bad-requires c κs = search needs

@@ -2,7 +2,8 @@
 use mathlib.Core.Path.{refl, _∙_}
 use borrow.Author.Needs.{needs}
 use Rattle.decoding.proofs.Looking.{no-row, row-is, shape-is}
-use Rattle.decoding.proofs.Rows.{low-answer, row-answer, no-type}
+use Rattle.decoding.proofs.Rows.{low-answer, no-type}
+use Rattle.shapes.proofs.Rows.{row-answer}
 use Rattle.decoding.proofs.decode_control.Statement.{statement}
 use Rattle.decoding.proofs.decode_control.Tie as tie
 
@@ -31,7 +32,10 @@ shape-of-requires c κs = search needs
 
 decode-row-requires : tie.Need-decode-row-requires
 decode-row-requires c κs =
-    (row-is (c .before .before .before .before .args .payload) _ (c .before .before .before .type-row .ensures) (c .before .before .if1 .left) .1, shape-is (c .before .before .before .before .args .payload) _ (c .before .before .before .type-row .ensures) _ (c .before .before .if1 .left) (c .shape-of .ensures .1))
+    let args = c .before .before .before .before .args in
+    let type-row = c .before .before .before .type-row in
+    let if1 = c .before .before .if1 in
+    (row-is (args .payload) _ (type-row .ensures) (if1 .left) .1, shape-is (args .payload) _ (type-row .ensures) _ (if1 .left) (c .shape-of .ensures .1))
 
 returns-3 : tie.Need-returns-3
 returns-3 c =

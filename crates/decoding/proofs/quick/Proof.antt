@@ -4,7 +4,7 @@ use mathlib.Core.Logic.{inl, inr}
 use native.Mathlib.Omega.{arith}
 use borrow.Author.Needs.{needs}
 use borrow.Author.Tests.{eqb-true}
-use Rattle.decoding.proofs.Quickly.{made-lt, number-lt, quickly}
+use Rattle.shapes.proofs.Quickly.{made-lt, number-lt, quickly}
 use Rattle.decoding.proofs.quick.Statement.{statement}
 use Rattle.decoding.proofs.quick.Tie as tie
 

@@ -141,7 +141,9 @@ decimal-digits-returns-2 : (t : ℕ) → decimal-digits-lts.Need-returns-2 (
   decimal-digits-below t,
   decimal-digits.Post,
 ) (decimal-digits-at t) decimal-digits.Post
-decimal-digits-returns-2 t c = digit-more _ _ _ _ _ _ (c .before .before .before .before .before .before .before .fits .n .fits) (c .before .before .before .before .before .if1 .left) (c .digit2 .ensures) (c .before .before .before .before .before .before .before .pre .1) (c .before .before .before .decimal-digits .ensures)
+decimal-digits-returns-2 t c = digit-more _ _ _ _ _ _ (c .before .before .before .before .before .before .before .fits .n .fits)
+    (c .before .before .before .before .before .if1 .left) (c .digit2 .ensures) (c .before .before .before .before .before .before .before .pre .1)
+    (c .before .before .before .decimal-digits .ensures)
 
 pub +decimal-digits-spec : {M : Type 1} → statement M
 +decimal-digits-spec = close μ-decimal-digits λ t. decimal-digits-lts.spec (

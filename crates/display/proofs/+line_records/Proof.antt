@@ -142,8 +142,11 @@ line-records-returns-3 : (t : ℕ) → line-records-lts.Need-returns-3 (
   line-records.Post,
 ) (line-records-at t) line-records.Post
 line-records-returns-3 t c =
-    let a = c .before .before .before .before .before .before .before .before .before .before .before .before .before .before in
-    records-on _ _ _ (now (a .args .line)) _ _ _ _ (c .before .before .before .before .before .before .before .before .before .before .if2 .left) (rest-is (now (a .args .line))) (a .pre .1) (c .before .before .before .before .before .before .before .line-record2 .ensures) (c .before .before .line-records .ensures)
+    let before = c .before .before .before .before .before .before .before .before .before .before .before .before .before .before in
+    let if2 = c .before .before .before .before .before .before .before .before .before .before .if2 in
+    let a = before in
+    records-on _ _ _ (now (a .args .line)) _ _ _ _ (if2 .left) (rest-is (now (a .args .line))) (a .pre .1)
+    (c .before .before .before .before .before .before .before .line-record2 .ensures) (c .before .before .line-records .ensures)
 
 pub +line-records-spec : {M : Type 1} → statement M
 +line-records-spec = close μ-line-records λ t. line-records-lts.spec (

@@ -1,6 +1,6 @@
 use native.Mathlib.Omega.{arith}
 use denote.Ref.{now}
-use Rattle.place.proofs.Laws.{writes-on}
+use Rattle.putting.proofs.Laws.{puts-on}
 use Rattle.display.proofs.Laws.{hex-length}
 use borrow.Author.Needs.{needs}
 use Rattle.display.proofs.hex_line.Statement.{statement}
@@ -19,7 +19,7 @@ same-length : tie.Need-same-length
 same-length c = search needs
 
 returns : tie.Need-returns
-returns c = writes-on _ _ _ _ _ _ _ _ (c .before .before .before .before .before .before .before .hex-digits .ensures) (c .before .before .text .ensures) (omega (arith, hex-length (now (c .before .before .before .before .before .before .before .before .before .before .before .args .v))))
+returns c = puts-on _ _ _ _ _ _ _ _ (c .before .before .before .before .before .before .before .hex-digits .ensures) (c .before .before .text .ensures) (omega (arith, hex-length (now (c .before .before .before .before .before .before .before .before .before .before .before .args .v))))
 
 pub hex-line-spec : {M : Type 1} → statement M
 hex-line-spec =

@@ -38,7 +38,17 @@ same-length : tie.Need-same-length
 same-length c = search needs
 
 returns : tie.Need-returns
-returns c = summary-written _ _ _ _ _ _ _ _ _ _ _ _ _ _ _ _ (c .before .before .before .before .before .before .before .before .before .before .bit .ensures) (c .before .before .before .before .bit2 .ensures) (omega (arith, c .before .before .before .before .before .before .before .before .before .before .before .before .before .before .before .before .before .before .before .before .before .before .before .pre, c .before .before .before .before .before .before .before .before .before .before .before .before .before .before .before .before .before .before .before .number-line .ensures .1, c .before .before .before .before .before .before .before .before .before .before .before .before .before .before .number-line2 .ensures .1, c .before .before .before .before .before .before .before .before .number-line3 .ensures .1, c .before .before .number-line4 .ensures .1)) (c .before .before .before .before .before .before .before .before .before .before .before .before .before .before .before .before .before .before .before .number-line .ensures .0) (c .before .before .before .before .before .before .before .before .before .before .before .before .before .before .number-line2 .ensures .0) (c .before .before .before .before .before .before .before .before .number-line3 .ensures .0) (c .before .before .number-line4 .ensures .0)
+returns c =
+    let pre = c .before .before .before .before .before .before .before .before .before .before .before .before .before .before .before .before
+    .before .before .before .before .before .before .before .pre in
+    let number-line = c .before .before .before .before .before .before .before .before .before .before .before .before .before .before .before .before .before .before .before .number-line in
+    let number-line2 = c .before .before .before .before .before .before .before .before .before .before .before .before .before .before .number-line2 in
+    let bit = c .before .before .before .before .before .before .before .before .before .before .bit in
+    let number-line3 = c .before .before .before .before .before .before .before .before .number-line3 in
+    let number-line4 = c .before .before .number-line4 in
+    summary-written _ _ _ _ _ _ _ _ _ _ _ _ _ _ _ _ (bit .ensures) (c .before .before .before .before .bit2 .ensures)
+    (omega (arith, pre, number-line .ensures .1, number-line2 .ensures .1, number-line3 .ensures .1, number-line4 .ensures .1))
+    (number-line .ensures .0) (number-line2 .ensures .0) (number-line3 .ensures .0) (number-line4 .ensures .0)
 
 pub summary-lines-spec : {M : Type 1} → statement M
 summary-lines-spec =

@@ -5,14 +5,13 @@ use Prim.Native.Nat.{ℕ, _+_, _*_}
 use native.Mathlib.Omega.{arith}
 use Rattle.block.specs.declared.Edition.{Edition}
 use Rattle.block.specs.Block.{carrier}
-use Rattle.encoding.specs.Answer.{codedOf}
-use Rattle.encoding.specs.Parts.{spread}
-use Rattle.encoding.proofs.Answers.{spread-words, low-coded}
+use Rattle.block.specs.Coded.{codedOf}
+use Rattle.fields.specs.Parts.{spread}
+use Rattle.encoding.proofs.Answers.{spread-words}
+use Rattle.quick_encoding.proofs.Plain.{low-coded}
 use borrow.Author.Needs.{needs}
 use Rattle.encoding.proofs.encode.Statement.{statement}
 use Rattle.encoding.proofs.encode.Tie as tie
-use Rattle.encoding.proofs.encode_rows.Reads as encode-rows-reads
-use Rattle.encoding.proofs.quick.Reads as quick-reads
 
 mul-lanes : tie.Need-mul-lanes
 mul-lanes c = search needs
@@ -24,7 +23,11 @@ quick-requires : tie.Need-quick-requires
 quick-requires c κs = search needs
 
 returns : tie.Need-returns
-returns c = c .before .quick .ensures .0 (c .if1 .taken) (c .before .before .args .edition) ∙ ap (λ (v : List ℕ). codedOf (carrier (c .before .before .args .edition) v)) (spread-words (c .before .before .args .c0) (c .before .before .args .d0) (c .before .before .args .c1) (c .before .before .args .d1) (omega arith))
+returns c =
+    let args = c .before .before .args in
+    let quick = c .before .quick in
+    quick .ensures .0 (c .if1 .taken) (args .edition) ∙ ap (λ (v : List ℕ). codedOf (carrier (args .edition) v))
+    (spread-words (args .c0) (args .d0) (args .c1) (args .d1) (omega arith))
 
 enum-told : tie.Need-enum-told
 enum-told c = search needs
@@ -42,16 +45,31 @@ add-if3 : tie.Need-add-if3
 add-if3 c = search needs
 
 returns-2 : tie.Need-returns-2
-returns-2 c = low-coded (c .before .before .before .before .before .before .args .edition) (c .before .before .enum-told2 .given .1) (c .before .before .before .before .before .before .args .c0) (c .before .before .before .before .before .before .args .d0) (c .before .before .before .before .before .before .args .c1) (c .before .before .before .before .before .before .args .d1) (c .before .before .before .before .before .before .pre .0) (c .before .before .before .before .before .before .pre .1) (omega arith) (c .if3 .taken) (c .before .if2 .taken)
+returns-2 c =
+    let args = c .before .before .before .before .before .before .args in
+    let pre = c .before .before .before .before .before .before .pre in
+    let enum-told2 = c .before .before .enum-told2 in
+    let if2 = c .before .if2 in
+    low-coded (args .edition) (enum-told2 .given .1) (args .c0) (args .d0) (args .c1) (args .d1) (pre .0) (pre .1) (omega arith) (c .if3 .taken) (if2 .taken)
 
 encode-rows-requires-2 : tie.Need-encode-rows-requires-2
 encode-rows-requires-2 c κs = (c .before .before .before .before .before .pre .0, c .before .before .before .before .before .pre .1, c .before .before .before .before .quick .ensures .1 (c .before .before .before .if1 .left))
 
 returns-3 : tie.Need-returns-3
-returns-3 c = c .encode-rows .ensures ∙ ap (λ (ed : Edition). codedOf (carrier ed (spread (c .before .before .before .before .before .args .c0) (c .before .before .before .before .before .args .c1) (c .before .before .before .before .before .args .d0 + c .before .before .before .before .before .args .d1 * 4294967296)))) (sym (c .before .enum-told .given .1)) ∙ ap (λ (v : List ℕ). codedOf (carrier (c .before .before .before .before .before .args .edition) v)) (spread-words (c .before .before .before .before .before .args .c0) (c .before .before .before .before .before .args .d0) (c .before .before .before .before .before .args .c1) (c .before .before .before .before .before .args .d1) (omega arith))
+returns-3 c =
+    let args = c .before .before .before .before .before .args in
+    let enum-told = c .before .enum-told in
+    c .encode-rows .ensures ∙ ap (λ (ed : Edition). codedOf (carrier ed (spread (args .c0) (args .c1) (args .d0 + args .d1 * 4294967296))))
+    (sym (enum-told .given .1)) ∙ ap (λ (v : List ℕ). codedOf (carrier (args .edition) v))
+    (spread-words (args .c0) (args .d0) (args .c1) (args .d1) (omega arith))
 
 returns-4 : tie.Need-returns-4
-returns-4 c = c .encode-rows2 .ensures ∙ ap (λ (ed : Edition). codedOf (carrier ed (spread (c .before .before .before .before .before .before .args .c0) (c .before .before .before .before .before .before .args .c1) (c .before .before .before .before .before .before .args .d0 + c .before .before .before .before .before .before .args .d1 * 4294967296)))) (sym (c .before .before .enum-told2 .given .1)) ∙ ap (λ (v : List ℕ). codedOf (carrier (c .before .before .before .before .before .before .args .edition) v)) (spread-words (c .before .before .before .before .before .before .args .c0) (c .before .before .before .before .before .before .args .d0) (c .before .before .before .before .before .before .args .c1) (c .before .before .before .before .before .before .args .d1) (omega arith))
+returns-4 c =
+    let args = c .before .before .before .before .before .before .args in
+    let enum-told2 = c .before .before .enum-told2 in
+    c .encode-rows2 .ensures ∙ ap (λ (ed : Edition). codedOf (carrier ed (spread (args .c0) (args .c1) (args .d0 + args .d1 * 4294967296))))
+    (sym (enum-told2 .given .1)) ∙ ap (λ (v : List ℕ). codedOf (carrier (args .edition) v))
+    (spread-words (args .c0) (args .d0) (args .c1) (args .d1) (omega arith))
 
 pub encode-spec : {M : Type 1} → statement M
 encode-spec =

@@ -2,8 +2,8 @@
 use Prim.Native.Nat.{_-_}
 use native.Mathlib.Omega.{arith}
 use borrow.Author.Needs.{needs}
-use Rattle.encoding.specs.Parts.{spread}
-use Rattle.encoding.proofs.Choosing.{Trying, first-try, next-try, next-gt, tried, none-tried, not-tried}
+use Rattle.fields.specs.Parts.{spread}
+use Rattle.fields.proofs.Choosing.{Trying, first-try, next-try, next-gt, tried, none-tried, not-tried}
 use Rattle.encoding.proofs.encode_rows.Statement.{statement}
 use Rattle.encoding.proofs.encode_rows.Tie as tie
 
@@ -38,7 +38,15 @@ kind-of-requires : tie.Need-kind-of-requires Inv-loop μ-loop
 kind-of-requires c κs = search needs
 
 returns : tie.Need-returns Inv-loop μ-loop
-returns c = tried (c .before .before .before .before .before .before .args .edition) (spread (c .before .before .before .before .before .before .args .c0) (c .before .before .before .before .before .before .args .c1) (c .before .before .before .before .before .before .args .lanes)) (c .before .before .before .before .loop .r) _ _ (c .before .before .before .loop-test .taken) (c .before .before .before .before .loop .inv) (c .before .before .before .before .before .before .pre .2) (c .kind-of .ensures) (c .before .before .pack .ensures) (c .before .if1 .taken)
+returns c =
+    let args = c .before .before .before .before .before .before .args in
+    let pre = c .before .before .before .before .before .before .pre in
+    let loop = c .before .before .before .before .loop in
+    let loop-test = c .before .before .before .loop-test in
+    let pack = c .before .before .pack in
+    let if1 = c .before .if1 in
+    tried (args .edition) (spread (args .c0) (args .c1) (args .lanes)) (loop .r) _ _ (loop-test .taken) (loop .inv) (pre .2) (c .kind-of .ensures)
+    (pack .ensures) (if1 .taken)
 
 next-row-requires : tie.Need-next-row-requires Inv-loop μ-loop
 next-row-requires c κs = search needs
@@ -47,7 +55,14 @@ loop-less : tie.Need-loop-less Inv-loop μ-loop
 loop-less c = omega (arith, c .next-row .ensures, next-gt (c .before .before .before .before .loop .r), c .before .before .before .loop-test .taken)
 
 loop-again : tie.Need-loop-again Inv-loop μ-loop
-loop-again c = next-try (c .before .before .before .before .before .before .args .edition) (spread (c .before .before .before .before .before .before .args .c0) (c .before .before .before .before .before .before .args .c1) (c .before .before .before .before .before .before .args .lanes)) (omega arith) (omega arith) (c .before .before .before .before .loop .r) _ (c .before .before .before .loop-test .taken) (c .before .before .before .before .loop .inv) (not-tried (c .before .before .before .before .before .before .args .edition) (spread (c .before .before .before .before .before .before .args .c0) (c .before .before .before .before .before .before .args .c1) (c .before .before .before .before .before .before .args .lanes)) (c .before .before .before .before .loop .r) _ (c .before .before .pack .ensures) (c .before .if1 .left)) (c .next-row .ensures)
+loop-again c =
+    let args = c .before .before .before .before .before .before .args in
+    let loop = c .before .before .before .before .loop in
+    let loop-test = c .before .before .before .loop-test in
+    let pack = c .before .before .pack in
+    let if1 = c .before .if1 in
+    next-try (args .edition) (spread (args .c0) (args .c1) (args .lanes)) (omega arith) (omega arith) (loop .r) _ (loop-test .taken) (loop .inv)
+    (not-tried (args .edition) (spread (args .c0) (args .c1) (args .lanes)) (loop .r) _ (pack .ensures) (if1 .left)) (c .next-row .ensures)
 
 returns-2 : tie.Need-returns-2 Inv-loop μ-loop
 returns-2 c = none-tried (c .before .before .before .args .edition) (spread (c .before .before .before .args .c0) (c .before .before .before .args .c1) (c .before .before .before .args .lanes)) (c .before .loop .r) (c .loop-test .left) (c .before .loop .inv)

@@ -33,7 +33,17 @@ answer-requires : tie.Need-answer-requires
 answer-requires c κs = search needs
 
 returns-4 : tie.Need-returns-4
-returns-4 c = good-answer (c .before .before .before .before .before .before .before .before .before .before .args .edition) (c .before .before .before .before .before .before .before .before .before .before .args .v .now) (c .before .before .before .before .before .before .before .before .if1 .left) _ _ _ _ (λ n. omega (arith, c .before .before .before .before .before .before .before .shared-slice-known2 .given n)) (c .before .before .before .before .before .before .if2 .left) (c .before .before .before .before .if3 .left) (c .before .before .before .lanes-at .ensures) (c .before .before .lanes-at2 .ensures) (c .before .encode .ensures) (c .answer .ensures)
+returns-4 c =
+    let args = c .before .before .before .before .before .before .before .before .before .before .args in
+    let if1 = c .before .before .before .before .before .before .before .before .if1 in
+    let shared-slice-known2 = c .before .before .before .before .before .before .before .shared-slice-known2 in
+    let if2 = c .before .before .before .before .before .before .if2 in
+    let if3 = c .before .before .before .before .if3 in
+    let lanes-at = c .before .before .before .lanes-at in
+    let lanes-at2 = c .before .before .lanes-at2 in
+    let encode = c .before .encode in
+    good-answer (args .edition) (args .v .now) (if1 .left) _ _ _ _ (λ n. omega (arith, shared-slice-known2 .given n)) (if2 .left) (if3 .left)
+    (lanes-at .ensures) (lanes-at2 .ensures) (encode .ensures) (c .answer .ensures)
 
 pub encode-vector-spec : {M : Type 1} → statement M
 encode-vector-spec =

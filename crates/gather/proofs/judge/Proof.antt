@@ -33,13 +33,19 @@ same-length : tie.Need-same-length
 same-length c = search needs
 
 returns : tie.Need-returns
-returns c = let a = c .before .before .before .before .before .before .before .before .before .before .args in came-to _ _ (a .used) _ _ (now (a .store)) _ (c .before .before .judge-window .result) _ (c .before .before .before .before .before .before .got .given .1) (c .before .before .judge-window .ensures)
+returns c =
+    let args = c .before .before .before .before .before .before .before .before .before .before .args in
+    let judge-window = c .before .before .judge-window in
+    let a = args in came-to _ _ (a .used) _ _ (now (a .store)) _ (judge-window .result) _ (c .before .before .before .before .before .before .got .given .1) (judge-window .ensures)
 
 same-length-2 : tie.Need-same-length-2
 same-length-2 c = search needs
 
 returns-2 : tie.Need-returns-2
-returns-2 c = let a = c .before .before .before .before .before .before .before .before .before .before .args in came-to _ _ (a .used) _ _ (now (a .store)) _ (c .before .before .judge-window2 .result) _ (c .before .before .before .before .before .before .got2 .given .1) (c .before .before .judge-window2 .ensures)
+returns-2 c =
+    let args = c .before .before .before .before .before .before .before .before .before .before .args in
+    let judge-window2 = c .before .before .judge-window2 in
+    let a = args in came-to _ _ (a .used) _ _ (now (a .store)) _ (judge-window2 .result) _ (c .before .before .before .before .before .before .got2 .given .1) (judge-window2 .ensures)
 
 returns-3 : tie.Need-returns-3
 returns-3 c = read-failed _ _ _ _ _ _ (c .before .before .before .before .pre .1) (c .enum-told .given .1)

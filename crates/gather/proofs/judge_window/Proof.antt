@@ -56,7 +56,11 @@ same-length : tie.Need-same-length
 same-length c = search needs
 
 returns-5 : tie.Need-returns-5
-returns-5 c = taken _ _ _ _ _ (c .before .before .before .before .before .before .before .before .before .before .before .before .before .pre) _ _ _ _ (found (c .before .before .before .before .before .before .before)) _ _ (c .before .before .before .before .before .before .if1 .left) (c .before .before .before .before .before .if2 .left) (c .before .before .before .before .body .ensures) (c .before .before .put .ensures)
+returns-5 c =
+    let pre = c .before .before .before .before .before .before .before .before .before .before .before .before .before .pre in
+    taken _ _ _ _ _ pre _ _ _ _ (found (c .before .before .before .before .before .before .before)) _ _
+    (c .before .before .before .before .before .before .if1 .left) (c .before .before .before .before .before .if2 .left)
+    (c .before .before .before .before .body .ensures) (c .before .before .put .ensures)
 
 pub judge-window-spec : {M : Type 1} → statement M
 judge-window-spec =

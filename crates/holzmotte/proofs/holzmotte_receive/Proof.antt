@@ -1,5 +1,5 @@
 -- `holzmotte::holzmotte_receive` meets its contract: a slice too short, an answer, a refusal. Assumes nothing.
-use mathlib.Core.Path.{sym, ap, _∙_}
+use mathlib.Core.Path.{sym, _∙_}
 use lib.ListN.{length}
 use denote.Ref.{now}
 use Rattle.receiving.specs.Answer.{receiveAnswer}
@@ -42,13 +42,19 @@ enum-known-answer c = search needs
 
 put-summary-requires : tie.Need-put-summary-requires
 put-summary-requires c κs =
-    let a = c .before .before .before .before .before .before .before .before .before .before .before .before .before .before .before .before .before .args in
-    long-summary (a .edition) (now (a .line)) (now (a .vectors)) (now (a .summary)) (now (a .counters)) (sym (c .before .before .before .before .before .before .before .before .before .before .before .before .short-slice .ensures) ∙ c .before .before .before .before .before .before .before .before .before .before .before .if1 .left)
+    let args = c .before .before .before .before .before .before .before .before .before .before .before .before .before .before .before .before .before .args in
+    let short-slice = c .before .before .before .before .before .before .before .before .before .before .before .before .short-slice in
+    let if1 = c .before .before .before .before .before .before .before .before .before .before .before .if1 in
+    let a = args in
+    long-summary (a .edition) (now (a .line)) (now (a .vectors)) (now (a .summary)) (now (a .counters)) (sym (short-slice .ensures) ∙ if1 .left)
 
 store-counters-requires : tie.Need-store-counters-requires
 store-counters-requires c κs =
-    let a = c .before .before .before .before .before .before .before .before .before .before .before .before .before .before .before .before .before .before .before .before .before .args in
-    long-counters (a .edition) (now (a .line)) (now (a .vectors)) (now (a .summary)) (now (a .counters)) (sym (c .before .before .before .before .before .before .before .before .before .before .before .before .before .before .before .before .short-slice .ensures) ∙ c .before .before .before .before .before .before .before .before .before .before .before .before .before .before .before .if1 .left)
+    let args = c .before .before .before .before .before .before .before .before .before .before .before .before .before .before .before .before .before .before .before .before .before .args in
+    let short-slice = c .before .before .before .before .before .before .before .before .before .before .before .before .before .before .before .before .short-slice in
+    let if1 = c .before .before .before .before .before .before .before .before .before .before .before .before .before .before .before .if1 in
+    let a = args in
+    long-counters (a .edition) (now (a .line)) (now (a .vectors)) (now (a .summary)) (now (a .counters)) (sym (short-slice .ensures) ∙ if1 .left)
 
 enum-known-answer-2 : tie.Need-enum-known-answer-2
 enum-known-answer-2 c = search needs
@@ -58,8 +64,11 @@ clear-requires-2 c κs = search needs
 
 refusal-requires : tie.Need-refusal-requires
 refusal-requires c κs =
-    let a = c .before .before .before .before .before .before .before .before .before .before .before .before .before .before .before .before .before .before .before .before .args in
-    small (a .edition) (now (a .line)) (length (now (a .vectors))) _ _ (as-found (receiveAnswer (a .edition) (now (a .line)) (length (now (a .vectors)))) (c .before .before .before .before .before .answer2 .given .1) (c .before .before .before .before .before .before .before .before .before .before .receive-by-value .ensures .0 .0))
+    let args = c .before .before .before .before .before .before .before .before .before .before .before .before .before .before .before .before .before .before .before .before .args in
+    let receive-by-value = c .before .before .before .before .before .before .before .before .before .before .receive-by-value in
+    let answer2 = c .before .before .before .before .before .answer2 in
+    let a = args in
+    small (a .edition) (now (a .line)) (length (now (a .vectors))) _ _ (as-found (receiveAnswer (a .edition) (now (a .line)) (length (now (a .vectors)))) (answer2 .given .1) (receive-by-value .ensures .0 .0))
 
 same-length-2 : tie.Need-same-length-2
 same-length-2 c = search needs
@@ -72,10 +81,17 @@ same-length-4 c = search needs
 
 returns-2 : tie.Need-returns-2
 returns-2 c =
-    let a = c .before .before .before .before .before .before .before .before .before .before .before .before .before .before .before .before .before .before .before .before .before .before .before .before .args in
-    received-so (a .edition) (now (a .line)) (now (a .vectors)) (now (a .summary)) (now (a .counters)) (sym (c .before .before .before .before .before .before .before .before .before .before .before .before .before .before .before .before .before .before .before .short-slice .ensures) ∙ c .before .before .before .before .before .before .before .before .before .before .before .before .before .before .before .before .before .before .if1 .left) (c .before .before .before .before .before .before .before .before .before .answer .given .0 .0) (c .before .before .before .before .before .before .before .before .before .before .before .before .before .before .before .load-counters .result) (c .before .before .before .before .before .before .before .before .before .before .before .before .before .before .receive-by-value .result .counters) _ _ _
-    (as-found (receiveAnswer (a .edition) (now (a .line)) (length (now (a .vectors)))) (c .before .before .before .before .before .before .before .before .before .answer .given .1) (c .before .before .before .before .before .before .before .before .before .before .before .before .before .before .receive-by-value .ensures .0 .0)) (c .before .before .before .before .before .before .before .before .before .before .before .before .before .before .receive-by-value .ensures .0 .1) (c .before .before .before .before .before .before .put-summary .ensures)
-    (c .before .before .before .before .before .before .before .before .before .before .before .before .before .before .before .load-counters .ensures) (c .before .before .before .before .before .before .before .before .before .before .before .before .before .before .receive-by-value .ensures .1) (c .before .before .store-counters .ensures)
+    let args = c .before .before .before .before .before .before .before .before .before .before .before .before .before .before .before .before .before .before .before .before .before .before .before .before .args in
+    let short-slice = c .before .before .before .before .before .before .before .before .before .before .before .before .before .before .before .before .before .before .before .short-slice in
+    let if1 = c .before .before .before .before .before .before .before .before .before .before .before .before .before .before .before .before .before .before .if1 in
+    let load-counters = c .before .before .before .before .before .before .before .before .before .before .before .before .before .before .before .load-counters in
+    let receive-by-value = c .before .before .before .before .before .before .before .before .before .before .before .before .before .before .receive-by-value in
+    let answer = c .before .before .before .before .before .before .before .before .before .answer in
+    let put-summary = c .before .before .before .before .before .before .put-summary in
+    let a = args in
+    received-so (a .edition) (now (a .line)) (now (a .vectors)) (now (a .summary)) (now (a .counters)) (sym (short-slice .ensures) ∙ if1 .left) (answer .given .0 .0) (load-counters .result) (receive-by-value .result .counters) _ _ _
+    (as-found (receiveAnswer (a .edition) (now (a .line)) (length (now (a .vectors)))) (answer .given .1) (receive-by-value .ensures .0 .0)) (receive-by-value .ensures .0 .1) (put-summary .ensures)
+    (load-counters .ensures) (receive-by-value .ensures .1) (c .before .before .store-counters .ensures)
 
 same-length-5 : tie.Need-same-length-5
 same-length-5 c = search needs
@@ -88,11 +104,17 @@ same-length-7 c = search needs
 
 returns-3 : tie.Need-returns-3
 returns-3 c =
-    let a = c .before .before .before .before .before .before .before .before .before .before .before .before .before .before .before .before .before .before .before .before .before .args in
+    let args = c .before .before .before .before .before .before .before .before .before .before .before .before .before .before .before .before .before .before .before .before .before .args in
+    let short-slice = c .before .before .before .before .before .before .before .before .before .before .before .before .before .before .before .before .short-slice in
+    let if1 = c .before .before .before .before .before .before .before .before .before .before .before .before .before .before .before .if1 in
+    let receive-by-value = c .before .before .before .before .before .before .before .before .before .before .before .receive-by-value in
+    let answer2 = c .before .before .before .before .before .before .answer2 in
+    let clear2 = c .before .before .before .clear2 in
+    let a = args in
     let t =
-    refused-so (a .edition) (now (a .line)) (now (a .vectors)) (now (a .summary)) (now (a .counters)) (sym (c .before .before .before .before .before .before .before .before .before .before .before .before .before .before .before .before .short-slice .ensures) ∙ c .before .before .before .before .before .before .before .before .before .before .before .before .before .before .before .if1 .left) _ _ _
-    (as-found (receiveAnswer (a .edition) (now (a .line)) (length (now (a .vectors)))) (c .before .before .before .before .before .before .answer2 .given .1) (c .before .before .before .before .before .before .before .before .before .before .before .receive-by-value .ensures .0 .0)) (c .before .before .before .before .before .before .before .before .before .before .before .receive-by-value .ensures .0 .1) in
-    (c .refusal .ensures ∙ t .0, t .1, c .before .before .before .clear2 .ensures ∙ t .2, t .3)
+    refused-so (a .edition) (now (a .line)) (now (a .vectors)) (now (a .summary)) (now (a .counters)) (sym (short-slice .ensures) ∙ if1 .left) _ _ _
+    (as-found (receiveAnswer (a .edition) (now (a .line)) (length (now (a .vectors)))) (answer2 .given .1) (receive-by-value .ensures .0 .0)) (receive-by-value .ensures .0 .1) in
+    (c .refusal .ensures ∙ t .0, t .1, clear2 .ensures ∙ t .2, t .3)
 
 pub holzmotte-receive-spec : {M : Type 1} → statement M
 holzmotte-receive-spec =

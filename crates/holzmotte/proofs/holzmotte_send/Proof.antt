@@ -51,8 +51,12 @@ same-length-2 c = search needs
 
 returns-2 : tie.Need-returns-2
 returns-2 c =
-    let a = c .before .before .before .before .before .before .before .before .before .before .before .before .before .before .before .before .args in
-    answered (a .edition) (now (a .vectors)) (now (a .line)) (now (a .summary)) _ _ (a .start) _ (c .before .before .before .before .before .before .before .before .before .before .before .before .if1 .left) (sym (ap answerOf (c .before .before .before .before .before .before .s .given .1)) ∙ c .before .before .before .before .before .before .before .before .before .before .send .ensures .0) (c .before .before .before .before .before .before .before .before .before .before .send .ensures .1) (c .before .before .put-words .ensures)
+    let args = c .before .before .before .before .before .before .before .before .before .before .before .before .before .before .before .before .args in
+    let if1 = c .before .before .before .before .before .before .before .before .before .before .before .before .if1 in
+    let send = c .before .before .before .before .before .before .before .before .before .before .send in
+    let s = c .before .before .before .before .before .before .s in
+    let a = args in
+    answered (a .edition) (now (a .vectors)) (now (a .line)) (now (a .summary)) _ _ (a .start) _ (if1 .left) (sym (ap answerOf (s .given .1)) ∙ send .ensures .0) (send .ensures .1) (c .before .before .put-words .ensures)
 
 same-length-3 : tie.Need-same-length-3
 same-length-3 c = search needs
@@ -62,8 +66,13 @@ same-length-4 c = search needs
 
 returns-3 : tie.Need-returns-3
 returns-3 c =
-    let a = c .before .before .before .before .before .before .before .before .before .before .before .before .before .before .before .before .before .args in
-    let t = answered (a .edition) (now (a .vectors)) (now (a .line)) (now (a .summary)) _ _ (a .start) _ (c .before .before .before .before .before .before .before .before .before .before .before .before .before .if1 .left) (sym (ap answerOf (c .before .before .before .before .before .before .before .why .given .1)) ∙ c .before .before .before .before .before .before .before .before .before .before .before .send .ensures .0) (c .before .before .before .before .before .before .before .before .before .before .before .send .ensures .1) (c .before .before .before .put-words2 .ensures) in
+    let args = c .before .before .before .before .before .before .before .before .before .before .before .before .before .before .before .before .before .args in
+    let if1 = c .before .before .before .before .before .before .before .before .before .before .before .before .before .if1 in
+    let send = c .before .before .before .before .before .before .before .before .before .before .before .send in
+    let why = c .before .before .before .before .before .before .before .why in
+    let put-words2 = c .before .before .before .put-words2 in
+    let a = args in
+    let t = answered (a .edition) (now (a .vectors)) (now (a .line)) (now (a .summary)) _ _ (a .start) _ (if1 .left) (sym (ap answerOf (why .given .1)) ∙ send .ensures .0) (send .ensures .1) (put-words2 .ensures) in
     (c .refusal .ensures ∙ t .0, t .1, t .2)
 
 pub holzmotte-send-spec : {M : Type 1} → statement M

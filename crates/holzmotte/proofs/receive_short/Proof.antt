@@ -28,7 +28,10 @@ returns c room summary counters l =
 
 returns-2 : tie.Need-returns-2
 returns-2 c room summary counters l =
-    c .refusal .ensures ∙ short-answer (c .before .before .before .before .before .before .before .before .args .edition) (now (c .before .before .before .before .before .before .before .before .args .line)) room summary counters _ (sym (ap answerOf (c .before .before .why .given .1)) ∙ c .before .before .before .before .before .receive .ensures .0) l
+    let args = c .before .before .before .before .before .before .before .before .args in
+    let receive = c .before .before .before .before .before .receive in
+    let why = c .before .before .why in
+    c .refusal .ensures ∙ short-answer (args .edition) (now (args .line)) room summary counters _ (sym (ap answerOf (why .given .1)) ∙ receive .ensures .0) l
 
 pub receive-short-spec : {M : Type 1} → statement M
 receive-short-spec =

@@ -20,15 +20,25 @@ enum-known-why : tie.Need-enum-known-why
 enum-known-why c = search needs
 
 refusal-requires : tie.Need-refusal-requires
-refusal-requires c κs = small (c .before .before .before .before .before .before .before .args .edition) (now (c .before .before .before .before .before .before .before .args .vectors)) (c .before .before .before .before .before .before .before .args .start) 0 _ _ (sym (ap answerOf (c .before .why .given .1)) ∙ c .before .before .before .before .send .ensures .0)
+refusal-requires c κs =
+    let args = c .before .before .before .before .before .before .before .args in
+    let send = c .before .before .before .before .send in
+    let why = c .before .why in
+    small (args .edition) (now (args .vectors)) (args .start) 0 _ _ (sym (ap answerOf (why .given .1)) ∙ send .ensures .0)
 
 returns : tie.Need-returns
 returns c room summary l =
-    short-answer (c .before .before .before .before .before .before .args .edition) (now (c .before .before .before .before .before .before .args .vectors)) (c .before .before .before .before .before .before .args .start) room summary _ (sym (ap answerOf (c .enum-told .given .1)) ∙ c .before .before .before .send .ensures .0) l
+    let args = c .before .before .before .before .before .before .args in
+    let send = c .before .before .before .send in
+    short-answer (args .edition) (now (args .vectors)) (args .start) room summary _ (sym (ap answerOf (c .enum-told .given .1)) ∙ send .ensures .0) l
 
 returns-2 : tie.Need-returns-2
 returns-2 c room summary l =
-    c .refusal .ensures ∙ short-answer (c .before .before .before .before .before .before .before .before .args .edition) (now (c .before .before .before .before .before .before .before .before .args .vectors)) (c .before .before .before .before .before .before .before .before .args .start) room summary _ (sym (ap answerOf (c .before .before .why .given .1)) ∙ c .before .before .before .before .before .send .ensures .0) l
+    let args = c .before .before .before .before .before .before .before .before .args in
+    let send = c .before .before .before .before .before .send in
+    let why = c .before .before .why in
+    c .refusal .ensures ∙ short-answer (args .edition) (now (args .vectors)) (args .start) room summary _ (sym (ap answerOf (why .given .1)) ∙ send .ensures .0)
+    l
 
 pub send-short-spec : {M : Type 1} → statement M
 send-short-spec =

@@ -12,7 +12,12 @@ same-length : tie.Need-same-length
 same-length c = search needs
 
 returns : tie.Need-returns
-returns c = state-short (c .before .before .before .before .before .before .before .before .before .before .args .closing) (now (c .before .before .before .before .before .before .before .before .before .before .args .state)) (now (c .before .before .before .before .before .before .before .before .before .before .args .line)) (now (c .before .before .before .before .before .before .before .before .before .before .args .vectors)) (now (c .before .before .before .before .before .before .before .before .before .before .args .summary)) (now (c .before .before .before .before .before .before .before .before .before .before .args .counters)) (c .before .before .before .before .if1 .taken) _ (c .before .before .clear .ensures)
+returns c =
+    let args = c .before .before .before .before .before .before .before .before .before .before .args in
+    let if1 = c .before .before .before .before .if1 in
+    let clear = c .before .before .clear in
+    state-short (args .closing) (now (args .state)) (now (args .line)) (now (args .vectors)) (now (args .summary)) (now (args .counters)) (if1 .taken) _
+    (clear .ensures)
 
 load-state-requires : tie.Need-load-state-requires
 load-state-requires c κs = search needs
@@ -36,7 +41,18 @@ continued-requires : tie.Need-continued-requires
 continued-requires c κs = search needs
 
 answered-requires : tie.Need-answered-requires
-answered-requires c κs = (c .before .before .before .before .before .before .before .before .before .before .before .if1 .left, call-fits (c .before .before .before .before .before .before .before .before .before .before .before .before .before .before .before .before .before .args .closing) (now (c .before .before .before .before .before .before .before .before .before .before .before .before .before .before .before .before .before .args .state)) (now (c .before .before .before .before .before .before .before .before .before .before .before .before .before .before .before .before .before .args .line)) (now (c .before .before .before .before .before .before .before .before .before .before .before .before .before .before .before .before .before .args .vectors)) (now (c .before .before .before .before .before .before .before .before .before .before .before .before .before .before .before .before .before .args .summary)) (now (c .before .before .before .before .before .before .before .before .before .before .before .before .before .before .before .before .before .args .counters)) (c .before .before .before .before .before .before .before .before .before .load-state .result) (c .before .before .before .before .before .before .before .before .before .load-state .ensures) (c .before .before .before .before .before .before .before .before .before .before .before .if1 .left) (c .before .before .before .before .before .before .before .before .short-slice .result) (c .before .before .before .before .before .before .before .before .short-slice .ensures) (c .before .before .before .before .before .before .before .lent .result) (c .before .before .before .before .before .before .before .lent .ensures .0) (c .before .before .before .before .before .continued .result) _ (c .before .before .before .before .before .continued .ensures))
+answered-requires c κs =
+    let args = c .before .before .before .before .before .before .before .before .before .before .before .before .before .before .before .before .before .args in
+    let if1 = c .before .before .before .before .before .before .before .before .before .before .before .if1 in
+    let load-state = c .before .before .before .before .before .before .before .before .before .load-state in
+    let short-slice = c .before .before .before .before .before .before .before .before .short-slice in
+    let lent = c .before .before .before .before .before .before .before .lent in
+    let continued = c .before .before .before .before .before .continued in (
+      if1 .left,
+      call-fits (args .closing) (now (args .state)) (now (args .line)) (now (args .vectors)) (now (args .summary)) (now (args .counters))
+          (load-state .result) (load-state .ensures) (if1 .left) (short-slice .result) (short-slice .ensures) (lent .result) (lent .ensures .0) (continued .result)
+          _ (continued .ensures),
+    )
 
 same-length-2 : tie.Need-same-length-2
 same-length-2 c = search needs
@@ -51,7 +67,17 @@ same-length-5 : tie.Need-same-length-5
 same-length-5 c = search needs
 
 returns-2 : tie.Need-returns-2
-returns-2 c = call-leaves (c .before .before .before .before .before .before .before .before .before .before .before .before .before .before .before .before .before .before .before .before .before .before .before .before .args .closing) (now (c .before .before .before .before .before .before .before .before .before .before .before .before .before .before .before .before .before .before .before .before .before .before .before .before .args .state)) (now (c .before .before .before .before .before .before .before .before .before .before .before .before .before .before .before .before .before .before .before .before .before .before .before .before .args .line)) (now (c .before .before .before .before .before .before .before .before .before .before .before .before .before .before .before .before .before .before .before .before .before .before .before .before .args .vectors)) (now (c .before .before .before .before .before .before .before .before .before .before .before .before .before .before .before .before .before .before .before .before .before .before .before .before .args .summary)) (now (c .before .before .before .before .before .before .before .before .before .before .before .before .before .before .before .before .before .before .before .before .before .before .before .before .args .counters)) (c .before .before .before .before .before .before .before .before .before .before .before .before .before .before .before .before .load-state .result) (c .before .before .before .before .before .before .before .before .before .before .before .before .before .before .before .before .load-state .ensures) (c .before .before .before .before .before .before .before .before .before .before .before .before .before .before .before .before .before .before .if1 .left) (c .before .before .before .before .before .before .before .before .before .before .before .before .before .before .before .short-slice .result) (c .before .before .before .before .before .before .before .before .before .before .before .before .before .before .before .short-slice .ensures) (c .before .before .before .before .before .before .before .before .before .before .before .before .before .before .lent .result) (c .before .before .before .before .before .before .before .before .before .before .before .before .before .before .lent .ensures .0) (c .before .before .before .before .before .before .before .before .before .before .before .before .continued .result) _ (c .before .before .before .before .before .before .before .before .before .before .before .before .continued .ensures) (c .before .before .before .before .before .before .answered .result) _ _ _ (c .before .before .before .before .before .before .answered .ensures)
+returns-2 c =
+    let args = c .before .before .before .before .before .before .before .before .before .before .before .before .before .before .before .before .before .before .before .before .before .before .before .before .args in
+    let if1 = c .before .before .before .before .before .before .before .before .before .before .before .before .before .before .before .before .before .before .if1 in
+    let load-state = c .before .before .before .before .before .before .before .before .before .before .before .before .before .before .before .before .load-state in
+    let short-slice = c .before .before .before .before .before .before .before .before .before .before .before .before .before .before .before .short-slice in
+    let lent = c .before .before .before .before .before .before .before .before .before .before .before .before .before .before .lent in
+    let continued = c .before .before .before .before .before .before .before .before .before .before .before .before .continued in
+    let answered = c .before .before .before .before .before .before .answered in
+    call-leaves (args .closing) (now (args .state)) (now (args .line)) (now (args .vectors)) (now (args .summary)) (now (args .counters)) (load-state .result)
+    (load-state .ensures) (if1 .left) (short-slice .result) (short-slice .ensures) (lent .result) (lent .ensures .0) (continued .result) _ (continued .ensures)
+    (answered .result) _ _ _ (answered .ensures)
 
 pub called-spec : {M : Type 1} → statement M
 called-spec =

@@ -34,7 +34,13 @@ same-length : tie.Need-same-length
 same-length c = search needs
 
 returns-3 : tie.Need-returns-3
-returns-3 c = begin-done (c .before .before .before .before .before .before .before .before .before .before .args .edition) (now (c .before .before .before .before .before .before .before .before .before .before .args .state)) _ _ (sym (ap begunOf (c .before .before .before .before .before .before .s .given .1)) ∙ c .before .before .before .before .before .before .before .before .begin .ensures) (c .before .before .before .before .if1 .left) (c .before .before .store-state .ensures)
+returns-3 c =
+    let args = c .before .before .before .before .before .before .before .before .before .before .args in
+    let begin = c .before .before .before .before .before .before .before .before .begin in
+    let s = c .before .before .before .before .before .before .s in
+    let if1 = c .before .before .before .before .if1 in
+    let store-state = c .before .before .store-state in
+    begin-done (args .edition) (now (args .state)) _ _ (sym (ap begunOf (s .given .1)) ∙ begin .ensures) (if1 .left) (store-state .ensures)
 
 pub holzmotte-begin-spec : {M : Type 1} → statement M
 holzmotte-begin-spec =

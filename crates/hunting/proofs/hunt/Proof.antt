@@ -29,7 +29,11 @@ same-length : tie.Need-same-length
 same-length c = search needs
 
 returns : tie.Need-returns
-returns c = subst₂ (Stretches (now (c .before .before .before .before .before .before .before .before .before .before .args .line)) (now (c .before .before .before .before .before .before .before .before .before .before .args .room)) (c .before .before .before .hunt-blocks .last .1 .0)) (c .before .before .before .before .searching .ensures) (sym (c .found .ensures)) (c .before .before .before .hunt-blocks .ensures)
+returns c =
+    let args = c .before .before .before .before .before .before .before .before .before .before .args in
+    let searching = c .before .before .before .before .searching in
+    let hunt-blocks = c .before .before .before .hunt-blocks in
+    subst₂ (Stretches (now (args .line)) (now (args .room)) (hunt-blocks .last .1 .0)) (searching .ensures) (sym (c .found .ensures)) (hunt-blocks .ensures)
 
 returns-2 : tie.Need-returns-2
 returns-2 c = search needs

@@ -3,19 +3,19 @@ use denote.Ref.{now}
 use Prim.Native.Nat.{_-_, _*_}
 use lib.ListN.{length}
 use Rattle.receiving.specs.Loop.{Stretches}
-use Rattle.hunting.specs.Unlocked.{foundOf}
+use Rattle.hunting.specs.Unlocked.{afterSearch}
 use Rattle.receiving.proofs.Stretching.{stretch-first, stretch-more, stretch-turn}
 use Rattle.hunting.proofs.hunt_blocks.Statement.{statement}
 use Rattle.hunting.proofs.hunt_blocks.Tie as tie
 
 abbrev Inv-loop : tie.InvT-loop
-Inv-loop line room₀ p s₀ room s = Stretches line room₀ room (foundOf p s₀) (foundOf p s)
+Inv-loop line room₀ p s₀ room s = Stretches line room₀ room (afterSearch p s₀) (afterSearch p s)
 
 abbrev μ-loop : tie.MeasureT-loop
 μ-loop line room₀ p s₀ room s = 8 * length line - s .pos
 
 loop-holds : tie.Need-loop-holds Inv-loop μ-loop
-loop-holds c = stretch-first (now (c .before .before .args .line)) (now (c .before .before .args .room)) (foundOf (c .before .before .args .p) (c .before .before .args .start)) (c .before .before .pre .2) (c .before .before .pre .3)
+loop-holds c = stretch-first (now (c .before .before .args .line)) (now (c .before .before .args .room)) (afterSearch (c .before .before .args .p) (c .before .before .args .start)) (c .before .before .pre .2) (c .before .before .pre .3)
 
 hunts-on-requires : tie.Need-hunts-on-requires Inv-loop μ-loop
 hunts-on-requires c κs = (c .before .before .before .pre .0, c .loop .inv .under .range .history)
@@ -28,10 +28,13 @@ loop-less c = omega (arith, c .before .before .hunt-step .ensures .0 .past, c .b
 
 loop-again : tie.Need-loop-again Inv-loop μ-loop
 loop-again c =
-    let line = now (c .before .before .before .before .before .before .before .before .before .args .line) in
-    let p = c .before .before .before .before .before .before .before .before .before .args .p in
-    stretch-more line (now (c .before .before .before .before .before .before .before .before .before .args .room)) (c .before .before .before .before .before .before .loop .room) (c .before .before .hunt-step .last .1 .0) (foundOf p (c .before .before .before .before .before .before .before .before .before .args .start)) (foundOf p (c .before .before .before .before .before .before .loop .s)) (foundOf p (c .before .before .hunt-step .result)) (c .before .before .before .before .before .before .loop .inv)
-    (stretch-turn line (c .before .before .before .before .before .before .loop .room) (c .before .before .hunt-step .last .1 .0) (foundOf p (c .before .before .before .before .before .before .loop .s)) (foundOf p (c .before .before .hunt-step .result)) (c .before .before .hunt-step .ensures .0) (c .before .before .hunt-step .ensures .1))
+    let args = c .before .before .before .before .before .before .before .before .before .args in
+    let loop = c .before .before .before .before .before .before .loop in
+    let hunt-step = c .before .before .hunt-step in
+    let line = now (args .line) in
+    let p = args .p in
+    stretch-more line (now (args .room)) (loop .room) (hunt-step .last .1 .0) (afterSearch p (args .start)) (afterSearch p (loop .s)) (afterSearch p (hunt-step .result)) (loop .inv)
+    (stretch-turn line (loop .room) (hunt-step .last .1 .0) (afterSearch p (loop .s)) (afterSearch p (hunt-step .result)) (hunt-step .ensures .0) (hunt-step .ensures .1))
 
 same-length : tie.Need-same-length Inv-loop μ-loop
 same-length c = c .before .before .loop .inv .len

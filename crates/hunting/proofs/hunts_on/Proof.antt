@@ -8,7 +8,7 @@ use Rattle.bits.proofs.Lists.{lineBit-lt}
 use Rattle.block.specs.declared.Edition.{Edition}
 use Rattle.blocks.specs.Blocks.{headerAt, payloadAt}
 use Rattle.scrambler.specs.Scrambler.{descrambled}
-use Rattle.tables.specs.Tables.{types}
+use Rattle.block.specs.Types.{types}
 use Rattle.hunting.specs.Unlocked.{controlOf, Tests}
 use Rattle.receiving.proofs.Stretching.{never}
 use Rattle.hunting.proofs.Unlocked.{times-le, tests-any, tests-quick}
@@ -29,31 +29,46 @@ type-row-requires : tie.Need-type-row-requires
 type-row-requires c κs = search needs
 
 control-requires : tie.Need-control-requires
-control-requires c κs = subst (λ (n : ℕ). n < 4) (sym (c .before .before .before .one-at .ensures .0)) (number-lt 2 (λ i. lineBit (now (c .before .before .before .before .before .before .before .before .before .args .line)) (c .before .before .before .before .before .before .before .before .before .args .s .pos + i)) (λ i q. lineBit-lt (now (c .before .before .before .before .before .before .before .before .before .args .line)) (c .before .before .before .before .before .before .before .before .before .args .s .pos + i)))
+control-requires c κs =
+    let args = c .before .before .before .before .before .before .before .before .before .args in
+    let one-at = c .before .before .before .one-at in
+    subst (λ (n : ℕ). n < 4) (sym (one-at .ensures .0))
+    (number-lt 2 (λ i. lineBit (now (args .line)) (args .s .pos + i)) (λ i q. lineBit-lt (now (args .line)) (args .s .pos + i)))
 
 mul-if3 : tie.Need-mul-if3
 mul-if3 c = search (needs, times-le (c .control .result) (c .before .type-row .result) (c .control .ensures .1))
 
 returns : tie.Need-returns
 returns c =
+    let args = c .before .before .before .before .before .before .before .before .before .before .before .args in
+    let if1 = c .before .before .before .before .before .before .before .before .if1 in
+    let if2 = c .before .before .before .before .before .before .if2 in
+    let one-at = c .before .before .before .before .before .one-at in
+    let descramble = c .before .before .before .before .descramble in
     λ e.
-    let small : c .before .before .before .before .before .one-at .result .header < 4 = subst (λ (n : ℕ). n < 4) (sym (c .before .before .before .before .before .one-at .ensures .0)) (number-lt 2 (λ i. lineBit (now (c .before .before .before .before .before .before .before .before .before .before .before .args .line)) (c .before .before .before .before .before .before .before .before .before .before .before .args .s .pos + i)) (λ i q. lineBit-lt (now (c .before .before .before .before .before .before .before .before .before .before .before .args .line)) (c .before .before .before .before .before .before .before .before .before .before .before .args .s .pos + i))) in
-    let told : (ed : Edition) → Tests ed (c .before .before .before .before .before .one-at .result .header) (c .before .before .before .before .descramble .result .word) → Tests ed (headerAt (now (c .before .before .before .before .before .before .before .before .before .before .before .args .line)) (c .before .before .before .before .before .before .before .before .before .before .before .args .s .pos)) (descrambled (payloadAt (now (c .before .before .before .before .before .before .before .before .before .before .before .args .line)) (c .before .before .before .before .before .before .before .before .before .before .before .args .s .pos)) (c .before .before .before .before .before .before .before .before .before .before .before .args .s .history)) =
-    λ ed t. subst₂ (Tests ed) (c .before .before .before .before .before .one-at .ensures .0) (c .before .before .before .before .descramble .ensures .0 ∙ ap (λ (x : ℕ). descrambled x (c .before .before .before .before .before .before .before .before .before .before .before .args .s .history)) (c .before .before .before .before .before .one-at .ensures .1)) t in
-    let row-is : controlOf (c .before .before .before .before .before .one-at .result .header) * getD types (c .before .before .before .before .descramble .result .word % 256) 0 ≡ c .before .control .result * c .before .before .type-row .result = ap₂ (λ (a b : ℕ). a * b) (sym (c .before .control .ensures .0)) (sym (c .before .before .type-row .ensures)) in
-    (c .before .before .before .before .before .before .before .before .if1 .taken, c .before .before .before .before .before .before .if2 .taken, λ ed. told ed (tests-any ed (c .before .before .before .before .before .one-at .result .header) (c .before .before .before .before .descramble .result .word) small (row-is ∙ c .if3 .taken)))
+    let small : one-at .result .header < 4 = subst (λ (n : ℕ). n < 4) (sym (one-at .ensures .0)) (number-lt 2 (λ i. lineBit (now (args .line)) (args .s .pos + i)) (λ i q. lineBit-lt (now (args .line)) (args .s .pos + i))) in
+    let told : (ed : Edition) → Tests ed (one-at .result .header) (descramble .result .word) → Tests ed (headerAt (now (args .line)) (args .s .pos)) (descrambled (payloadAt (now (args .line)) (args .s .pos)) (args .s .history)) =
+    λ ed t. subst₂ (Tests ed) (one-at .ensures .0) (descramble .ensures .0 ∙ ap (λ (x : ℕ). descrambled x (args .s .history)) (one-at .ensures .1)) t in
+    let row-is : controlOf (one-at .result .header) * getD types (descramble .result .word % 256) 0 ≡ c .before .control .result * c .before .before .type-row .result = ap₂ (λ (a b : ℕ). a * b) (sym (c .before .control .ensures .0)) (sym (c .before .before .type-row .ensures)) in
+    (if1 .taken, if2 .taken, λ ed. told ed (tests-any ed (one-at .result .header) (descramble .result .word) small (row-is ∙ c .if3 .taken)))
 
 quick-requires : tie.Need-quick-requires
 quick-requires c κs = search needs
 
 returns-2 : tie.Need-returns-2
 returns-2 c =
+    let args = c .before .before .before .before .before .before .before .before .before .before .before .before .args in
+    let if1 = c .before .before .before .before .before .before .before .before .before .if1 in
+    let if2 = c .before .before .before .before .before .before .before .if2 in
+    let one-at = c .before .before .before .before .before .before .one-at in
+    let descramble = c .before .before .before .before .before .descramble in
+    let type-row = c .before .before .before .type-row in
     λ e.
-    let small : c .before .before .before .before .before .before .one-at .result .header < 4 = subst (λ (n : ℕ). n < 4) (sym (c .before .before .before .before .before .before .one-at .ensures .0)) (number-lt 2 (λ i. lineBit (now (c .before .before .before .before .before .before .before .before .before .before .before .before .args .line)) (c .before .before .before .before .before .before .before .before .before .before .before .before .args .s .pos + i)) (λ i q. lineBit-lt (now (c .before .before .before .before .before .before .before .before .before .before .before .before .args .line)) (c .before .before .before .before .before .before .before .before .before .before .before .before .args .s .pos + i))) in
-    let told : (ed : Edition) → Tests ed (c .before .before .before .before .before .before .one-at .result .header) (c .before .before .before .before .before .descramble .result .word) → Tests ed (headerAt (now (c .before .before .before .before .before .before .before .before .before .before .before .before .args .line)) (c .before .before .before .before .before .before .before .before .before .before .before .before .args .s .pos)) (descrambled (payloadAt (now (c .before .before .before .before .before .before .before .before .before .before .before .before .args .line)) (c .before .before .before .before .before .before .before .before .before .before .before .before .args .s .pos)) (c .before .before .before .before .before .before .before .before .before .before .before .before .args .s .history)) =
-    λ ed t. subst₂ (Tests ed) (c .before .before .before .before .before .before .one-at .ensures .0) (c .before .before .before .before .before .descramble .ensures .0 ∙ ap (λ (x : ℕ). descrambled x (c .before .before .before .before .before .before .before .before .before .before .before .before .args .s .history)) (c .before .before .before .before .before .before .one-at .ensures .1)) t in
-    let row-is : controlOf (c .before .before .before .before .before .before .one-at .result .header) * getD types (c .before .before .before .before .before .descramble .result .word % 256) 0 ≡ c .before .before .control .result * c .before .before .before .type-row .result = ap₂ (λ (a b : ℕ). a * b) (sym (c .before .before .control .ensures .0)) (sym (c .before .before .before .type-row .ensures)) in
-    (c .before .before .before .before .before .before .before .before .before .if1 .taken, c .before .before .before .before .before .before .before .if2 .taken, λ ed. told ed (tests-quick ed (c .before .before .before .before .before .before .one-at .result .header) (c .before .before .before .before .before .descramble .result .word) small (λ z. c .before .if3 .left (sym row-is ∙ z)) (c .quick .result .class) (c .quick .result .vector) (c .quick .ensures e ed)))
+    let small : one-at .result .header < 4 = subst (λ (n : ℕ). n < 4) (sym (one-at .ensures .0)) (number-lt 2 (λ i. lineBit (now (args .line)) (args .s .pos + i)) (λ i q. lineBit-lt (now (args .line)) (args .s .pos + i))) in
+    let told : (ed : Edition) → Tests ed (one-at .result .header) (descramble .result .word) → Tests ed (headerAt (now (args .line)) (args .s .pos)) (descrambled (payloadAt (now (args .line)) (args .s .pos)) (args .s .history)) =
+    λ ed t. subst₂ (Tests ed) (one-at .ensures .0) (descramble .ensures .0 ∙ ap (λ (x : ℕ). descrambled x (args .s .history)) (one-at .ensures .1)) t in
+    let row-is : controlOf (one-at .result .header) * getD types (descramble .result .word % 256) 0 ≡ c .before .before .control .result * type-row .result = ap₂ (λ (a b : ℕ). a * b) (sym (c .before .before .control .ensures .0)) (sym (type-row .ensures)) in
+    (if1 .taken, if2 .taken, λ ed. told ed (tests-quick ed (one-at .result .header) (descramble .result .word) small (λ z. c .before .if3 .left (sym row-is ∙ z)) (c .quick .result .class) (c .quick .result .vector) (c .quick .ensures e ed)))
 
 returns-3 : tie.Need-returns-3
 returns-3 c = λ e. never e

@@ -35,7 +35,11 @@ same-length : tie.Need-same-length Inv-loop μ-loop
 same-length c = c .before .before .before .judge .kept .1 .1 .1 .0 ∙ c .before .before .before .before .before .before .before .before .before .before .loop .inv .1 .same
 
 returns : tie.Need-returns Inv-loop μ-loop
-returns c = turn-last _ _ _ _ _ _ _ (c .before .before .before .before .before .before .before .read-window .result) (c .before .before .before .before .before .before .before .read-window .last .1 .0) (c .before .before .before .before .before .before .before .before .before .before .loop .inv .1) (c .before .before .before .before .before .before .before .read-window .ensures) (c .before .before .before .judge .ensures) (no-more (c .before .before .before .judge .result) (c .match .keys2))
+returns c =
+    let loop = c .before .before .before .before .before .before .before .before .before .before .loop in
+    let read-window = c .before .before .before .before .before .before .before .read-window in
+    let judge = c .before .before .before .judge in
+    turn-last _ _ _ _ _ _ _ (read-window .result) (read-window .last .1 .0) (loop .inv .1) (read-window .ensures) (judge .ensures) (no-more (judge .result) (c .match .keys2))
 
 sub-turns : tie.Need-sub-turns Inv-loop μ-loop
 sub-turns c = omega arith
@@ -44,7 +48,14 @@ loop-less : tie.Need-loop-less Inv-loop μ-loop
 loop-less c = omega arith
 
 loop-again : tie.Need-loop-again Inv-loop μ-loop
-loop-again c = (c .before .before .before .before .before .before .before .before .before .read-window .kept .1 .0 ∙ c .before .before .before .before .before .before .before .before .before .before .before .before .loop .inv .0, turn-more _ _ _ _ _ _ _ (c .before .before .before .before .before .before .before .before .before .read-window .result) (c .before .before .before .before .before .before .before .before .before .read-window .last .1 .0) (c .before .before .before .before .before .before .before .before .before .before .before .before .loop .inv .1) (c .before .before .before .before .before .before .before .before .before .read-window .ensures) (c .before .before .before .before .before .judge .ensures) _ (c .before .step .given .1) (c .before .before .before .before .before .before .before .before .before .before .before .loop-test .taken))
+loop-again c =
+    let loop = c .before .before .before .before .before .before .before .before .before .before .before .before .loop in
+    let loop-test = c .before .before .before .before .before .before .before .before .before .before .before .loop-test in
+    let read-window = c .before .before .before .before .before .before .before .before .before .read-window in (
+      read-window .kept .1 .0 ∙ loop .inv .0,
+      turn-more _ _ _ _ _ _ _ (read-window .result) (read-window .last .1 .0) (loop .inv .1) (read-window .ensures)
+          (c .before .before .before .before .before .judge .ensures) _ (c .before .step .given .1) (loop-test .taken),
+    )
 
 same-length-2 : tie.Need-same-length-2 Inv-loop μ-loop
 same-length-2 c = c .before .loop .inv .1 .same

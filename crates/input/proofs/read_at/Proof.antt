@@ -43,10 +43,16 @@ enum-known-got c = search needs
 
 -- How many bytes the read gave.
 gave : (c : tie.After-got Inv-loop μ-loop) → (0 < c .got .given .0 .0) × (c .before .before .before .before .before .before .before .loop .done + c .got .given .0 .0 ≤ c .before .before .before .before .before .before .before .before .before .args .n)
-gave c = part-bytes _ _ _ _ _ (c .before .before .before .before .before .before .before .before .before .pre) (c .before .before .before .before .before .before .before .loop .inv) _ _ (c .before .before .before .before .before .before .loop-test .taken) (c .before .before .before .before .read-part .ensures) (c .got .given .1)
+gave c =
+    let pre = c .before .before .before .before .before .before .before .before .before .pre in
+    part-bytes _ _ _ _ _ pre (c .before .before .before .before .before .before .before .loop .inv) _ _
+    (c .before .before .before .before .before .before .loop-test .taken) (c .before .before .before .before .read-part .ensures)
+    (c .got .given .1)
 
 -- It gave none.
-none : (c : tie.At-match-keys2 Inv-loop μ-loop) → InAll (c .before .before .before .before .before .before .before .before .args .n) (behind (c .before .before .before .before .before .before .loop .done) (c .before .before .before .read-part .result)) × (countOf (c .before .before .before .read-part .result) ≡ 0)
+none : (c : tie.At-match-keys2 Inv-loop μ-loop) → InAll (c .before .before .before .before .before .before .before .before .args .n)
+    (behind (c .before .before .before .before .before .before .loop .done) (c .before .before .before .read-part .result)) ×
+    (countOf (c .before .before .before .read-part .result) ≡ 0)
 none c = came-none _ _ _ _ (c .before .before .before .read-part .ensures) (c .match .keys2) (c .before .before .before .before .before .loop-test .taken)
 
 -- The buffer after it.

@@ -43,9 +43,13 @@ same-length-2 c = search needs
 
 returns-2 : tie.Need-returns-2
 returns-2 c =
+    let pre = c .before .before .before .before .before .before .before .before .before .before .before .before .before .before .before .pre in
+    let read-at = c .before .before .before .before .before .before .before .before .before .before .before .before .read-at in
+    let read-at2 = c .before .before .before .read-at2 in
     let w = c .before .before .before .before .before .wanted .ensures in
-    let l = c .before .before .before .read-at2 .kept .1 .0 ∙ c .before .before .before .before .before .before .before .before .before .before .before .before .read-at .kept .1 .0 ∙ c .before .before .before .before .before .before .before .before .before .before .before .before .before .before .before .pre in
-    subst (WindowIn _) (sym (c .counted .ensures)) (head-and-body _ _ _ _ _ _ (four (c .before .before .before .before .before .before .before)) (w .0) (w .1) (c .before .before .before .read-at2 .ensures .1) (omega arith) l _ (c .before .before .before .read-at2 .ensures .0))
+    let l = read-at2 .kept .1 .0 ∙ read-at .kept .1 .0 ∙ pre in
+    subst (WindowIn _) (sym (c .counted .ensures))
+    (head-and-body _ _ _ _ _ _ (four (c .before .before .before .before .before .before .before)) (w .0) (w .1) (read-at2 .ensures .1) (omega arith) l _ (read-at2 .ensures .0))
 
 pub read-window-spec : {M : Type 1} → statement M
 read-window-spec =

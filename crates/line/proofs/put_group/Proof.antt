@@ -1,7 +1,6 @@
 -- `line::put_group` meets its contract. Assumes nothing.
 use denote.Ref.{now}
 use Rattle.line.proofs.Laws.{group-put}
-use Rattle.line.specs.Word.{word}
 use borrow.Author.Needs.{needs}
 use Rattle.line.proofs.put_group.Statement.{statement}
 use Rattle.line.proofs.put_group.Tie as tie

@@ -39,9 +39,14 @@ same-length c = simp length-set (omega arith)
 
 returns : tie.Need-returns
 returns c =
-    let a = c .before .before .before .before .before .before .before .before .before .before .before .before .before .before .before .before .before .args in
-    words-put (a .at) (a .w) (a .x) (a .y) (a .z) (a .last) (now (a .room)) (c .before .before .before .before .before .before .before .before .before .before .before .before .before .before .store .last .0) (c .before .before .before .before .before .before .before .before .before .before .store2 .last .0) (c .before .before .before .before .before .before .store3 .last .0) (c .before .before .store4 .last .0)
-    (c .before .before .before .before .before .before .before .before .before .before .before .before .before .before .before .before .before .pre) (c .before .before .before .before .before .before .before .before .before .before .before .before .before .before .store .ensures) (c .before .before .before .before .before .before .before .before .before .before .store2 .ensures) (c .before .before .before .before .before .before .store3 .ensures) (c .before .before .store4 .ensures)
+    let args = c .before .before .before .before .before .before .before .before .before .before .before .before .before .before .before .before .before .args in
+    let pre = c .before .before .before .before .before .before .before .before .before .before .before .before .before .before .before .before .before .pre in
+    let store = c .before .before .before .before .before .before .before .before .before .before .before .before .before .before .store in
+    let store2 = c .before .before .before .before .before .before .before .before .before .before .store2 in
+    let store3 = c .before .before .before .before .before .before .store3 in
+    let a = args in
+    words-put (a .at) (a .w) (a .x) (a .y) (a .z) (a .last) (now (a .room)) (store .last .0) (store2 .last .0) (store3 .last .0) (c .before .before .store4 .last .0)
+    pre (store .ensures) (store2 .ensures) (store3 .ensures) (c .before .before .store4 .ensures)
 
 pub put-words-spec : {M : Type 1} → statement M
 put-words-spec =

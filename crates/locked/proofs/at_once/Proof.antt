@@ -18,7 +18,11 @@ enum-told-2 : tie.Need-enum-told-2
 enum-told-2 c = search needs
 
 returns-2 : tie.Need-returns-2
-returns-2 c = λ e. let a = low-answer (c .before .before .before .before .before .before .args .edition) (c .before .before .before .before .before .before .args .header) (c .before .before .before .before .before .before .args .payload) (c .enum-told2 .given .1) (c .before .before .if3 .taken) (c .before .before .before .if2 .taken) in (a .0, a .1, refl)
+returns-2 c =
+    let args = c .before .before .before .before .before .before .args in
+    let if2 = c .before .before .before .if2 in
+    let if3 = c .before .before .if3 in
+    λ e. let a = low-answer (args .edition) (args .header) (args .payload) (c .enum-told2 .given .1) (if3 .taken) (if2 .taken) in (a .0, a .1, refl)
 
 returns-3 : tie.Need-returns-3
 returns-3 c = λ e. never (sym (c .before .before .before .before .if1 .left) ∙ e)

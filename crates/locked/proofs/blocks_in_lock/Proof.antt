@@ -23,12 +23,16 @@ groups-ahead-requires : tie.Need-groups-ahead-requires Inv-loop μ-loop
 groups-ahead-requires c κs = (c .before .before .before .before .before .pre .0, c .before .before .before .before .before .pre .3, c .before .before .before .before .before .pre .1 .range .blocks)
 
 loop-holds : tie.Need-loop-holds Inv-loop μ-loop
-loop-holds c = let p = c .before .before .before .before .before .before .args .p in (
-  subst (Stretches (now (c .before .before .before .before .before .before .args .line)) (now (c .before .before .before .before .before .before .args .room)) (now (c .before .before .before .before .before .before .args .room)) p) (sym (c .before .starting .ensures .0)) (stretch-first (now (c .before .before .before .before .before .before .args .line)) (now (c .before .before .before .before .before .before .args .room)) p (c .before .before .before .before .before .before .pre .1) (c .before .before .before .before .before .before .pre .3)),
-  subst InLock (sym (c .before .starting .ensures .0)) (c .before .before .before .before .before .before .pre .2),
-  omega arith,
-  λ l. (omega (arith, c .before .starting .ensures .1), omega (arith, c .groups-ahead .ensures .0), omega (arith, c .before .starting .ensures .1, c .groups-ahead .ensures .1)),
-)
+loop-holds c =
+    let args = c .before .before .before .before .before .before .args in
+    let pre = c .before .before .before .before .before .before .pre in
+    let starting = c .before .starting in
+    let p = args .p in (
+      subst (Stretches (now (args .line)) (now (args .room)) (now (args .room)) p) (sym (starting .ensures .0)) (stretch-first (now (args .line)) (now (args .room)) p (pre .1) (pre .3)),
+      subst InLock (sym (starting .ensures .0)) (pre .2),
+      omega arith,
+      λ l. (omega (arith, starting .ensures .1), omega (arith, c .groups-ahead .ensures .0), omega (arith, starting .ensures .1, c .groups-ahead .ensures .1)),
+    )
 
 four-at-requires : tie.Need-four-at-requires Inv-loop μ-loop
 four-at-requires c κs = let h = c .before .before .loop .inv .3 (c .before .loop-test .taken) in (omega (arith, h .1, c .before .loop-test .taken), c .before .before .loop .inv .2)
@@ -46,7 +50,11 @@ group-requires c κs = let h = c .before .before .before .loop .inv .3 (c .befor
 )
 
 add-from : tie.Need-add-from Inv-loop μ-loop
-add-from c = let h = c .before .before .before .before .before .before .loop .inv .3 (c .before .before .before .before .before .loop-test .taken) in omega (arith, h .1, c .before .before .before .before .before .loop-test .taken, c .before .before .before .before .before .before .before .before .before .before .before .before .before .pre .0)
+add-from c =
+    let pre = c .before .before .before .before .before .before .before .before .before .before .before .before .before .pre in
+    let loop = c .before .before .before .before .before .before .loop in
+    let loop-test = c .before .before .before .before .before .loop-test in
+    let h = loop .inv .3 (loop-test .taken) in omega (arith, h .1, loop-test .taken, pre .0)
 
 add-if1 : tie.Need-add-if1 Inv-loop μ-loop
 add-if1 c = let h = c .before .before .before .before .before .before .loop .inv .3 (c .before .before .before .before .before .loop-test .taken) in omega (arith, h .2, c .before .before .before .before .before .loop-test .taken)
@@ -58,32 +66,46 @@ loop-less : tie.Need-loop-less Inv-loop μ-loop
 loop-less c = omega (arith, c .before .before .before .before .before .before .before .loop-test .taken)
 
 loop-again : tie.Need-loop-again Inv-loop μ-loop
-loop-again c = let h = c .before .before .before .before .before .before .before .before .loop .inv .3 (c .before .before .before .before .before .before .before .loop-test .taken) in (
-  stretch-more (now (c .before .before .before .before .before .before .before .before .before .before .before .before .before .before .before .args .line)) (now (c .before .before .before .before .before .before .before .before .before .before .before .before .before .before .before .args .room)) (c .before .before .before .before .before .before .before .before .loop .room) (c .before .before .before .before .group .last .1 .0) (c .before .before .before .before .before .before .before .before .before .before .before .before .before .before .before .args .p) (ranOf (c .before .before .before .before .before .before .before .before .before .before .before .before .before .before .before .args .p) (c .before .before .before .before .before .before .before .before .loop .s)) (ranOf (c .before .before .before .before .before .before .before .before .before .before .before .before .before .before .before .args .p) (c .before .before .before .before .group .result)) (c .before .before .before .before .before .before .before .before .loop .inv .0) (c .before .before .before .before .group .ensures .0),
-  c .before .before .before .before .group .ensures .1,
-  c .before .before .before .before .before .before .before .before .loop .inv .2,
-  λ l. (omega (arith, h .0, c .if1 .taken), omega (arith, h .1, l), omega (arith, h .2, c .if1 .taken, l)),
-)
+loop-again c =
+    let args = c .before .before .before .before .before .before .before .before .before .before .before .before .before .before .before .args in
+    let loop = c .before .before .before .before .before .before .before .before .loop in
+    let loop-test = c .before .before .before .before .before .before .before .loop-test in
+    let group = c .before .before .before .before .group in
+    let h = loop .inv .3 (loop-test .taken) in (
+      stretch-more (now (args .line)) (now (args .room)) (loop .room) (group .last .1 .0) (args .p) (ranOf (args .p) (loop .s)) (ranOf (args .p) (group .result)) (loop .inv .0) (group .ensures .0),
+      group .ensures .1,
+      loop .inv .2,
+      λ l. (omega (arith, h .0, c .if1 .taken), omega (arith, h .1, l), omega (arith, h .2, c .if1 .taken, l)),
+    )
 
 loop-less-2 : tie.Need-loop-less-2 Inv-loop μ-loop
 loop-less-2 c = c .before .before .before .before .before .before .before .loop-test .taken
 
 loop-again-2 : tie.Need-loop-again-2 Inv-loop μ-loop
-loop-again-2 c = (
-  stretch-more (now (c .before .before .before .before .before .before .before .before .before .before .before .before .before .before .before .args .line)) (now (c .before .before .before .before .before .before .before .before .before .before .before .before .before .before .before .args .room)) (c .before .before .before .before .before .before .before .before .loop .room) (c .before .before .before .before .group .last .1 .0) (c .before .before .before .before .before .before .before .before .before .before .before .before .before .before .before .args .p) (ranOf (c .before .before .before .before .before .before .before .before .before .before .before .before .before .before .before .args .p) (c .before .before .before .before .before .before .before .before .loop .s)) (ranOf (c .before .before .before .before .before .before .before .before .before .before .before .before .before .before .before .args .p) (c .before .before .before .before .group .result)) (c .before .before .before .before .before .before .before .before .loop .inv .0) (c .before .before .before .before .group .ensures .0),
-  c .before .before .before .before .group .ensures .1,
-  c .before .before .before .before .before .before .before .before .loop .inv .2,
-  λ l. absurd (omega (arith, l)),
-)
+loop-again-2 c =
+    let args = c .before .before .before .before .before .before .before .before .before .before .before .before .before .before .before .args in
+    let loop = c .before .before .before .before .before .before .before .before .loop in
+    let group = c .before .before .before .before .group in (
+      stretch-more (now (args .line)) (now (args .room)) (loop .room) (group .last .1 .0) (args .p) (ranOf (args .p) (loop .s)) (ranOf (args .p) (group .result)) (loop .inv .0) (group .ensures .0),
+      group .ensures .1,
+      loop .inv .2,
+      λ l. absurd (omega (arith, l)),
+    )
 
 ran-requires : tie.Need-ran-requires Inv-loop μ-loop
-ran-requires c κs = let u = c .before .loop .inv .0 .under in (c .before .before .before .before .before .before .before .before .pre .1 .range .tested, u .range .blocks, omega (arith, u .pos, c .before .before .before .before .before .before .before .before .pre .0), omega (arith, u .counts .tested, u .pos, c .before .before .before .before .before .before .before .before .pre .0))
+ran-requires c κs =
+    let pre = c .before .before .before .before .before .before .before .before .pre in
+    let loop = c .before .loop in
+    let u = loop .inv .0 .under in (pre .1 .range .tested, u .range .blocks, omega (arith, u .pos, pre .0), omega (arith, u .counts .tested, u .pos, pre .0))
 
 same-length : tie.Need-same-length Inv-loop μ-loop
 same-length c = c .before .before .loop .inv .0 .len
 
 returns : tie.Need-returns Inv-loop μ-loop
-returns c = subst (Stretches (now (c .before .before .before .before .before .before .before .before .before .args .line)) (now (c .before .before .before .before .before .before .before .before .before .args .room)) (c .before .before .loop .room) (c .before .before .before .before .before .before .before .before .before .args .p)) (sym (c .ran .ensures)) (c .before .before .loop .inv .0)
+returns c =
+    let args = c .before .before .before .before .before .before .before .before .before .args in
+    let loop = c .before .before .loop in
+    subst (Stretches (now (args .line)) (now (args .room)) (loop .room) (args .p)) (sym (c .ran .ensures)) (loop .inv .0)
 
 pub blocks-in-lock-spec : {M : Type 1} → statement M
 blocks-in-lock-spec =

@@ -6,23 +6,74 @@ use Rattle.locked.proofs.data_four.Statement.{statement}
 use Rattle.locked.proofs.data_four.Tie as tie
 
 data-step-requires : tie.Need-data-step-requires
-data-step-requires c κs = (c .before .before .before .pre .0, comes-first (now (c .before .before .before .args .line)) (now (c .before .before .before .args .room)) (ranOf (c .before .before .before .args .p) (c .before .before .before .args .s)) (c .before .before .before .args .f) 2 0xaa data-valid (refl, refl, refl, refl) (c .before .before .before .pre .1 .under) (c .before .before .before .pre .1 .lock) (c .before .before .before .pre .1 .here) (c .before .before .before .pre .2) (c .before .before .before .pre .3) (c .before .before .before .pre .1 .more), c .before .before .before .pre .4)
+data-step-requires c κs =
+    let pre = c .before .before .before .pre in
+    let args = c .before .before .before .args in (
+      pre .0,
+      comes-first (now (args .line)) (now (args .room)) (ranOf (args .p) (args .s)) (args .f) 2 0xaa data-valid (refl, refl, refl, refl) (pre .1 .under)
+          (pre .1 .lock) (pre .1 .here) (pre .2) (pre .3) (pre .1 .more),
+      pre .4,
+    )
 
 data-step-requires-2 : tie.Need-data-step-requires-2
-data-step-requires-2 c κs = (c .before .before .before .before .before .before .before .pre .0, comes-second (now (c .before .before .before .before .before .before .before .args .line)) (now (c .before .before .before .before .before .before .before .args .room)) (ranOf (c .before .before .before .before .before .before .before .args .p) (c .before .before .before .before .before .before .before .args .s)) (c .before .before .before .before .before .before .before .args .f) 2 0xaa data-valid (refl, refl, refl, refl) (c .before .before .before .before .before .before .before .pre .1 .under) (c .before .before .before .before .before .before .before .pre .1 .lock) (c .before .before .before .before .before .before .before .pre .1 .here) (c .before .before .before .before .before .before .before .pre .2) (c .before .before .before .before .before .before .before .pre .3) (c .before .before .before .before .before .before .before .pre .1 .more) (c .before .before .before .data-step .last .1 .0) (ranOf (c .before .before .before .before .before .before .before .args .p) (c .before .before .before .data-step .result)) (c .before .before .before .data-step .ensures .0), c .before .before .before .data-step .ensures .1)
+data-step-requires-2 c κs =
+    let pre = c .before .before .before .before .before .before .before .pre in
+    let args = c .before .before .before .before .before .before .before .args in
+    let data-step = c .before .before .before .data-step in (
+      pre .0,
+      comes-second (now (args .line)) (now (args .room)) (ranOf (args .p) (args .s)) (args .f) 2 0xaa data-valid (refl, refl, refl, refl)
+          (pre .1 .under) (pre .1 .lock) (pre .1 .here) (pre .2) (pre .3) (pre .1 .more) (data-step .last .1 .0) (ranOf (args .p) (data-step .result))
+          (data-step .ensures .0),
+      data-step .ensures .1,
+    )
 
 data-step-requires-3 : tie.Need-data-step-requires-3
-data-step-requires-3 c κs = (c .before .before .before .before .before .before .before .before .before .before .before .pre .0, comes-third (now (c .before .before .before .before .before .before .before .before .before .before .before .args .line)) (now (c .before .before .before .before .before .before .before .before .before .before .before .args .room)) (ranOf (c .before .before .before .before .before .before .before .before .before .before .before .args .p) (c .before .before .before .before .before .before .before .before .before .before .before .args .s)) (c .before .before .before .before .before .before .before .before .before .before .before .args .f) 2 0xaa data-valid (refl, refl, refl, refl) (c .before .before .before .before .before .before .before .before .before .before .before .pre .1 .under) (c .before .before .before .before .before .before .before .before .before .before .before .pre .1 .lock) (c .before .before .before .before .before .before .before .before .before .before .before .pre .1 .here) (c .before .before .before .before .before .before .before .before .before .before .before .pre .2) (c .before .before .before .before .before .before .before .before .before .before .before .pre .3) (c .before .before .before .before .before .before .before .before .before .before .before .pre .1 .more) (c .before .before .before .before .before .before .before .data-step .last .1 .0) (ranOf (c .before .before .before .before .before .before .before .before .before .before .before .args .p) (c .before .before .before .before .before .before .before .data-step .result)) (c .before .before .before .before .before .before .before .data-step .ensures .0) (c .before .before .before .data-step2 .last .1 .0) (ranOf (c .before .before .before .before .before .before .before .before .before .before .before .args .p) (c .before .before .before .data-step2 .result)) (c .before .before .before .data-step2 .ensures .0), c .before .before .before .data-step2 .ensures .1)
+data-step-requires-3 c κs =
+    let pre = c .before .before .before .before .before .before .before .before .before .before .before .pre in
+    let args = c .before .before .before .before .before .before .before .before .before .before .before .args in
+    let data-step = c .before .before .before .before .before .before .before .data-step in
+    let data-step2 = c .before .before .before .data-step2 in (
+      pre .0,
+      comes-third (now (args .line)) (now (args .room)) (ranOf (args .p) (args .s)) (args .f) 2 0xaa data-valid (refl, refl, refl, refl) (pre .1 .under)
+          (pre .1 .lock) (pre .1 .here) (pre .2) (pre .3) (pre .1 .more) (data-step .last .1 .0) (ranOf (args .p) (data-step .result)) (data-step .ensures .0)
+          (data-step2 .last .1 .0) (ranOf (args .p) (data-step2 .result)) (data-step2 .ensures .0),
+      data-step2 .ensures .1,
+    )
 
 data-step-requires-4 : tie.Need-data-step-requires-4
-data-step-requires-4 c κs = (c .before .before .before .before .before .before .before .before .before .before .before .before .before .before .before .pre .0, comes-fourth (now (c .before .before .before .before .before .before .before .before .before .before .before .before .before .before .before .args .line)) (now (c .before .before .before .before .before .before .before .before .before .before .before .before .before .before .before .args .room)) (ranOf (c .before .before .before .before .before .before .before .before .before .before .before .before .before .before .before .args .p) (c .before .before .before .before .before .before .before .before .before .before .before .before .before .before .before .args .s)) (c .before .before .before .before .before .before .before .before .before .before .before .before .before .before .before .args .f) 2 0xaa data-valid (refl, refl, refl, refl) (c .before .before .before .before .before .before .before .before .before .before .before .before .before .before .before .pre .1 .under) (c .before .before .before .before .before .before .before .before .before .before .before .before .before .before .before .pre .1 .lock) (c .before .before .before .before .before .before .before .before .before .before .before .before .before .before .before .pre .1 .here) (c .before .before .before .before .before .before .before .before .before .before .before .before .before .before .before .pre .2) (c .before .before .before .before .before .before .before .before .before .before .before .before .before .before .before .pre .3) (c .before .before .before .before .before .before .before .before .before .before .before .before .before .before .before .pre .1 .more) (c .before .before .before .before .before .before .before .before .before .before .before .data-step .last .1 .0) (ranOf (c .before .before .before .before .before .before .before .before .before .before .before .before .before .before .before .args .p) (c .before .before .before .before .before .before .before .before .before .before .before .data-step .result)) (c .before .before .before .before .before .before .before .before .before .before .before .data-step .ensures .0) (c .before .before .before .before .before .before .before .data-step2 .last .1 .0) (ranOf (c .before .before .before .before .before .before .before .before .before .before .before .before .before .before .before .args .p) (c .before .before .before .before .before .before .before .data-step2 .result)) (c .before .before .before .before .before .before .before .data-step2 .ensures .0) (c .before .before .before .data-step3 .last .1 .0) (ranOf (c .before .before .before .before .before .before .before .before .before .before .before .before .before .before .before .args .p) (c .before .before .before .data-step3 .result)) (c .before .before .before .data-step3 .ensures .0), c .before .before .before .data-step3 .ensures .1)
+data-step-requires-4 c κs =
+    let pre = c .before .before .before .before .before .before .before .before .before .before .before .before .before .before .before .pre in
+    let args = c .before .before .before .before .before .before .before .before .before .before .before .before .before .before .before .args in
+    let data-step = c .before .before .before .before .before .before .before .before .before .before .before .data-step in
+    let data-step2 = c .before .before .before .before .before .before .before .data-step2 in
+    let data-step3 = c .before .before .before .data-step3 in (
+      pre .0,
+      comes-fourth (now (args .line)) (now (args .room)) (ranOf (args .p) (args .s)) (args .f) 2 0xaa data-valid (refl, refl, refl, refl)
+          (pre .1 .under) (pre .1 .lock) (pre .1 .here) (pre .2) (pre .3) (pre .1 .more) (data-step .last .1 .0) (ranOf (args .p) (data-step .result))
+          (data-step .ensures .0) (data-step2 .last .1 .0) (ranOf (args .p) (data-step2 .result)) (data-step2 .ensures .0) (data-step3 .last .1 .0)
+          (ranOf (args .p) (data-step3 .result)) (data-step3 .ensures .0),
+      data-step3 .ensures .1,
+    )
 
 same-length : tie.Need-same-length
-same-length c = c .before .before .data-step4 .ensures .0 .turns .len ∙ c .before .before .before .before .before .before .data-step3 .ensures .0 .turns .len ∙ c .before .before .before .before .before .before .before .before .before .before .data-step2 .ensures .0 .turns .len ∙ c .before .before .before .before .before .before .before .before .before .before .before .before .before .before .data-step .ensures .0 .turns .len
+same-length c =
+    let data-step = c .before .before .before .before .before .before .before .before .before .before .before .before .before .before .data-step in
+    let data-step2 = c .before .before .before .before .before .before .before .before .before .before .data-step2 in
+    let data-step3 = c .before .before .before .before .before .before .data-step3 in
+    let data-step4 = c .before .before .data-step4 in
+    data-step4 .ensures .0 .turns .len ∙ data-step3 .ensures .0 .turns .len ∙ data-step2 .ensures .0 .turns .len ∙ data-step .ensures .0 .turns .len
 
 returns : tie.Need-returns
-returns c = steps-four (now (c .before .before .before .before .before .before .before .before .before .before .before .before .before .before .before .before .before .before .args .line)) (now (c .before .before .before .before .before .before .before .before .before .before .before .before .before .before .before .before .before .before .args .room)) (c .before .before .before .before .before .before .before .before .before .before .before .before .before .before .data-step .last .1 .0) (c .before .before .before .before .before .before .before .before .before .before .data-step2 .last .1 .0) (c .before .before .before .before .before .before .data-step3 .last .1 .0) (c .before .before .data-step4 .last .1 .0) (c .before .before .before .before .before .before .before .before .before .before .before .before .before .before .before .before .before .before .args .f .a) (c .before .before .before .before .before .before .before .before .before .before .before .before .before .before .before .before .before .before .args .f .b) (c .before .before .before .before .before .before .before .before .before .before .before .before .before .before .before .before .before .before .args .f .c) (c .before .before .before .before .before .before .before .before .before .before .before .before .before .before .before .before .before .before .args .f .d)
-    (ranOf (c .before .before .before .before .before .before .before .before .before .before .before .before .before .before .before .before .before .before .args .p) (c .before .before .before .before .before .before .before .before .before .before .before .before .before .before .before .before .before .before .args .s)) (ranOf (c .before .before .before .before .before .before .before .before .before .before .before .before .before .before .before .before .before .before .args .p) (c .before .before .before .before .before .before .before .before .before .before .before .before .before .before .data-step .result)) (ranOf (c .before .before .before .before .before .before .before .before .before .before .before .before .before .before .before .before .before .before .args .p) (c .before .before .before .before .before .before .before .before .before .before .data-step2 .result)) (ranOf (c .before .before .before .before .before .before .before .before .before .before .before .before .before .before .before .before .before .before .args .p) (c .before .before .before .before .before .before .data-step3 .result)) (ranOf (c .before .before .before .before .before .before .before .before .before .before .before .before .before .before .before .before .before .before .args .p) (c .before .before .data-step4 .result)) (c .before .before .before .before .before .before .before .before .before .before .before .before .before .before .data-step .ensures .0) (c .before .before .before .before .before .before .before .before .before .before .data-step2 .ensures .0) (c .before .before .before .before .before .before .data-step3 .ensures .0) (c .before .before .data-step4 .ensures .0)
+returns c =
+    let args = c .before .before .before .before .before .before .before .before .before .before .before .before .before .before .before .before .before .before .args in
+    let data-step = c .before .before .before .before .before .before .before .before .before .before .before .before .before .before .data-step in
+    let data-step2 = c .before .before .before .before .before .before .before .before .before .before .data-step2 in
+    let data-step3 = c .before .before .before .before .before .before .data-step3 in
+    let data-step4 = c .before .before .data-step4 in
+    steps-four (now (args .line)) (now (args .room)) (data-step .last .1 .0) (data-step2 .last .1 .0) (data-step3 .last .1 .0) (data-step4 .last .1 .0)
+    (args .f .a) (args .f .b) (args .f .c) (args .f .d) (ranOf (args .p) (args .s)) (ranOf (args .p) (data-step .result)) (ranOf (args .p) (data-step2 .result))
+    (ranOf (args .p) (data-step3 .result)) (ranOf (args .p) (data-step4 .result)) (data-step .ensures .0) (data-step2 .ensures .0) (data-step3 .ensures .0)
+    (data-step4 .ensures .0)
 
 pub data-four-spec : {M : Type 1} → statement M
 data-four-spec =

@@ -18,8 +18,20 @@ octets-requires : tie.Need-octets-requires
 octets-requires c κs = search needs
 
 steady-step-requires : tie.Need-steady-step-requires
-steady-step-requires c κs = let ed = c .before .before .before .before .before .args .p .receiver .link .edition in
-    (c .before .before .before .before .before .pre .0, c .before .before .before .before .before .pre .1, record { class = data-answer ed 2 (descrambled (c .before .before .before .before .before .args .payload) (c .before .before .before .before .before .args .s .history)) refl .0; vector = c .octets .ensures ed ∙ ap (decoded ed 2) (c .before .before .descramble .ensures .0); good = refl }, c .before .before .before .before .before .pre .2, refl, refl, c .before .before .descramble .ensures .1)
+steady-step-requires c κs =
+    let args = c .before .before .before .before .before .args in
+    let pre = c .before .before .before .before .before .pre in
+    let descramble = c .before .before .descramble in
+    let ed = args .p .receiver .link .edition in (
+      pre .0,
+      pre .1,
+      record
+          { class = data-answer ed 2 (descrambled (args .payload) (args .s .history)) refl .0; vector = c .octets .ensures ed ∙ ap (decoded ed 2) (descramble .ensures .0); good = refl },
+      pre .2,
+      refl,
+      refl,
+      descramble .ensures .1,
+    )
 
 same-length : tie.Need-same-length
 same-length c = search needs

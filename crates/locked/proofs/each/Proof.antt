@@ -26,10 +26,14 @@ loop-holds c = (
 )
 
 single-requires : tie.Need-single-requires Inv-loop μ-loop
-single-requires c κs = let h = c .before .before .before .loop .inv .2 .a (c .before .before .loop-test .taken) in
-    let n = c .before .before .before .loop .inv .4 (c .before .before .loop-test .taken) in (
-      c .before .before .before .before .before .before .pre .0,
-      record { under = c .before .before .before .loop .inv .0 .under; lock = c .before .before .before .loop .inv .1; here = omega (arith, n, c .before .before .before .before .before .before .pre .1 .here, c .before .before .loop-test .taken); more = omega (arith, n, c .before .before .before .before .before .before .pre .1 .more, c .before .before .loop-test .taken) },
+single-requires c κs =
+    let pre = c .before .before .before .before .before .before .pre in
+    let loop = c .before .before .before .loop in
+    let loop-test = c .before .before .loop-test in
+    let h = loop .inv .2 .a (loop-test .taken) in
+    let n = loop .inv .4 (loop-test .taken) in (
+      pre .0,
+      record { under = loop .inv .0 .under; lock = loop .inv .1; here = omega (arith, n, pre .1 .here, loop-test .taken); more = omega (arith, n, pre .1 .more, loop-test .taken) },
       h .0,
       h .1,
     )
@@ -44,27 +48,36 @@ loop-less : tie.Need-loop-less Inv-loop μ-loop
 loop-less c = omega (arith, c .before .before .before .before .before .before .before .before .loop-test .taken)
 
 loop-again : tie.Need-loop-again Inv-loop μ-loop
-loop-again c = let one : c .before .before .before .before .before .single .result .count ≡ c .before .before .before .before .before .before .before .before .before .loop .s .count + 1 = c .before .before .before .before .before .single .ensures .2 (c .if1 .taken) in
-    let e : c .before .before .before .before .before .before .before .before .before .before .before .before .args .p .pos + 66 * c .before .before .before .before .before .before .before .before .before .loop .s .count + 66 ≡ c .before .before .before .before .before .before .before .before .before .before .before .before .args .p .pos + 66 * c .before .before .before .before .before .single .result .count = omega (arith, one) in (
-      stretch-more (now (c .before .before .before .before .before .before .before .before .before .before .before .before .args .line)) (now (c .before .before .before .before .before .before .before .before .before .before .before .before .args .room)) (c .before .before .before .before .before .before .before .before .before .loop .room) (c .before .before .before .before .before .single .last .1 .0) (ranOf (c .before .before .before .before .before .before .before .before .before .before .before .before .args .p) (c .before .before .before .before .before .before .before .before .before .before .before .before .args .start)) (ranOf (c .before .before .before .before .before .before .before .before .before .before .before .before .args .p) (c .before .before .before .before .before .before .before .before .before .loop .s)) (ranOf (c .before .before .before .before .before .before .before .before .before .before .before .before .args .p) (c .before .before .before .before .before .single .result)) (c .before .before .before .before .before .before .before .before .before .loop .inv .0) (c .before .before .before .before .before .single .ensures .0),
-      c .before .before .before .before .before .single .ensures .1,
-      subst (λ (pos : ℕ). Ahead (now (c .before .before .before .before .before .before .before .before .before .before .before .before .args .line)) pos (c .before .before .before .before .before .before .before .before .before .loop .left - 1) (c .before .before .rest .result)) e
-          (ahead-rest (now (c .before .before .before .before .before .before .before .before .before .before .before .before .args .line)) (c .before .before .before .before .before .before .before .before .before .before .before .before .args .p .pos + 66 * c .before .before .before .before .before .before .before .before .before .loop .s .count) (c .before .before .before .before .before .before .before .before .before .loop .left) (c .before .before .before .before .before .before .before .before .before .loop .f) (c .before .before .rest .result) (c .before .before .before .before .before .before .before .before .before .loop .inv .2) (c .before .before .rest .ensures .0) (c .before .before .rest .ensures .1) (c .before .before .rest .ensures .2) (c .before .before .rest .ensures .3) (c .before .before .before .before .before .before .before .before .before .loop .inv .3)),
-      omega (arith, c .before .before .before .before .before .before .before .before .before .loop .inv .3),
-      λ l. omega (arith, one, l, c .before .before .before .before .before .before .before .before .before .loop .inv .4 (c .before .before .before .before .before .before .before .before .loop-test .taken)),
+loop-again c =
+    let args = c .before .before .before .before .before .before .before .before .before .before .before .before .args in
+    let loop = c .before .before .before .before .before .before .before .before .before .loop in
+    let loop-test = c .before .before .before .before .before .before .before .before .loop-test in
+    let single = c .before .before .before .before .before .single in
+    let rest = c .before .before .rest in
+    let one : single .result .count ≡ loop .s .count + 1 = single .ensures .2 (c .if1 .taken) in
+    let e : args .p .pos + 66 * loop .s .count + 66 ≡ args .p .pos + 66 * single .result .count = omega (arith, one) in (
+      stretch-more (now (args .line)) (now (args .room)) (loop .room) (single .last .1 .0) (ranOf (args .p) (args .start)) (ranOf (args .p) (loop .s)) (ranOf (args .p) (single .result)) (loop .inv .0) (single .ensures .0),
+      single .ensures .1,
+      subst (λ (pos : ℕ). Ahead (now (args .line)) pos (loop .left - 1) (rest .result)) e
+          (ahead-rest (now (args .line)) (args .p .pos + 66 * loop .s .count) (loop .left) (loop .f) (rest .result) (loop .inv .2) (rest .ensures .0) (rest .ensures .1) (rest .ensures .2) (rest .ensures .3) (loop .inv .3)),
+      omega (arith, loop .inv .3),
+      λ l. omega (arith, one, l, loop .inv .4 (loop-test .taken)),
     )
 
 loop-less-2 : tie.Need-loop-less-2 Inv-loop μ-loop
 loop-less-2 c = c .before .before .before .before .before .before .before .before .loop-test .taken
 
 loop-again-2 : tie.Need-loop-again-2 Inv-loop μ-loop
-loop-again-2 c = (
-  stretch-more (now (c .before .before .before .before .before .before .before .before .before .before .before .before .args .line)) (now (c .before .before .before .before .before .before .before .before .before .before .before .before .args .room)) (c .before .before .before .before .before .before .before .before .before .loop .room) (c .before .before .before .before .before .single .last .1 .0) (ranOf (c .before .before .before .before .before .before .before .before .before .before .before .before .args .p) (c .before .before .before .before .before .before .before .before .before .before .before .before .args .start)) (ranOf (c .before .before .before .before .before .before .before .before .before .before .before .before .args .p) (c .before .before .before .before .before .before .before .before .before .loop .s)) (ranOf (c .before .before .before .before .before .before .before .before .before .before .before .before .args .p) (c .before .before .before .before .before .single .result)) (c .before .before .before .before .before .before .before .before .before .loop .inv .0) (c .before .before .before .before .before .single .ensures .0),
-  c .before .before .before .before .before .single .ensures .1,
-  ahead-none (now (c .before .before .before .before .before .before .before .before .before .before .before .before .args .line)) (c .before .before .before .before .before .before .before .before .before .before .before .before .args .p .pos + 66 * c .before .before .before .before .before .single .result .count) (c .before .before .rest .result),
-  omega arith,
-  λ l. absurd (omega (arith, l)),
-)
+loop-again-2 c =
+    let args = c .before .before .before .before .before .before .before .before .before .before .before .before .args in
+    let loop = c .before .before .before .before .before .before .before .before .before .loop in
+    let single = c .before .before .before .before .before .single in (
+      stretch-more (now (args .line)) (now (args .room)) (loop .room) (single .last .1 .0) (ranOf (args .p) (args .start)) (ranOf (args .p) (loop .s)) (ranOf (args .p) (single .result)) (loop .inv .0) (single .ensures .0),
+      single .ensures .1,
+      ahead-none (now (args .line)) (args .p .pos + 66 * single .result .count) (c .before .before .rest .result),
+      omega arith,
+      λ l. absurd (omega (arith, l)),
+    )
 
 same-length : tie.Need-same-length Inv-loop μ-loop
 same-length c = c .before .loop .inv .0 .len

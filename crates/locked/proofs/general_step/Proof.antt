@@ -10,7 +10,14 @@ use Rattle.locked.proofs.general_step.Statement.{statement}
 use Rattle.locked.proofs.general_step.Tie as tie
 
 add-end : tie.Need-add-end
-add-end c = search (needs, one-fits (now (c .before .before .before .args .line)) (now (c .before .before .before .args .room)) (ranOf (c .before .before .before .args .p) (c .before .before .before .args .s)) (c .before .before .before .args .b .header) (c .before .before .before .args .b .payload) (c .before .before .before .pre .1) (c .before .before .before .args .class) (c .before .before .before .args .vector) (c .before .before .before .pre .2))
+add-end c =
+    let args = c .before .before .before .args in
+    let pre = c .before .before .before .pre in
+    search (
+      needs,
+      one-fits (now (args .line)) (now (args .room)) (ranOf (args .p) (args .s)) (args .b .header) (args .b .payload) (pre .1) (args .class)
+          (args .vector) (pre .2),
+    )
 
 add-count : tie.Need-add-count
 add-count c = search needs
@@ -25,18 +32,28 @@ hand-out-requires : tie.Need-hand-out-requires
 hand-out-requires c κs = search needs
 
 put-vector-requires : tie.Need-put-vector-requires
-put-vector-requires c κs = one-fits (now (c .before .before .before .before .before .before .before .before .before .before .before .before .args .line)) (now (c .before .before .before .before .before .before .before .before .before .before .before .before .args .room)) (ranOf (c .before .before .before .before .before .before .before .before .before .before .before .before .args .p) (c .before .before .before .before .before .before .before .before .before .before .before .before .args .s)) (c .before .before .before .before .before .before .before .before .before .before .before .before .args .b .header) (c .before .before .before .before .before .before .before .before .before .before .before .before .args .b .payload) (c .before .before .before .before .before .before .before .before .before .before .before .before .pre .1) (c .before .before .before .before .before .before .before .before .before .before .before .before .args .class) (c .before .before .before .before .before .before .before .before .before .before .before .before .args .vector) (c .before .before .before .before .before .before .before .before .before .before .before .before .pre .2)
+put-vector-requires c κs =
+    let args = c .before .before .before .before .before .before .before .before .before .before .before .before .args in
+    let pre = c .before .before .before .before .before .before .before .before .before .before .before .before .pre in
+    one-fits (now (args .line)) (now (args .room)) (ranOf (args .p) (args .s)) (args .b .header) (args .b .payload) (pre .1) (args .class) (args .vector)
+    (pre .2)
 
 same-length : tie.Need-same-length
 same-length c = search needs
 
 returns : tie.Need-returns
-returns c = (
-  run-general (now (c .before .before .before .before .before .before .before .before .before .before .before .before .before .before .before .args .line)) (now (c .before .before .before .before .before .before .before .before .before .before .before .before .before .before .before .args .room)) (c .before .before .before .before .before .before .before .before .before .before .before .before .before .before .before .args .p) (c .before .before .before .before .before .before .before .before .before .before .before .before .before .before .before .args .s) (c .before .before .before .before .before .before .before .before .before .before .before .before .before .before .before .args .b .header) (c .before .before .before .before .before .before .before .before .before .before .before .before .before .before .before .args .b .payload) (c .before .before .before .before .before .before .before .before .before .before .before .before .before .before .before .pre .1) (c .before .before .before .before .before .before .before .before .before .before .before .before .before .before .before .args .class) (c .before .before .before .before .before .before .before .before .before .before .before .before .before .before .before .args .vector) (c .before .before .before .before .before .before .before .before .before .before .before .before .before .before .before .pre .2) (c .before .before .before .before .before .before .before .before .before .before .before .before .before .before .before .args .history) (c .before .before .before .before .before .before .before .before .before .before .before .before .before .before .before .pre .4) (c .before .before .put-vector .last .0) (c .before .before .before .before .before .before .before .diagram-step .result) (c .before .before .before .before .before .before .hand-out .result .vector) (c .before .before .before .before .before .before .hand-out .result .handed)
-      (c .before .before .before .before .before .before .before .diagram-step .ensures ∙ ap (λ (k : Kind). diagramOf (c .before .before .before .before .before .before .before .before .before .before .before .before .before .before .before .args .s .state) k (c .before .before .before .before .before .before .before .before .before .before .before .before .before .before .before .args .ends)) (c .before .before .before .before .before .before .before .before .kind-in .ensures) ∙ ap (diagramOf (c .before .before .before .before .before .before .before .before .before .before .before .before .before .before .before .args .s .state) (kindIn (c .before .before .before .before .before .before .before .before .before .before .before .before .before .before .before .args .s .class))) (c .before .before .before .before .before .before .before .before .before .before .before .before .before .before .before .pre .3))
-      (c .before .before .before .before .before .before .hand-out .ensures .0) (c .before .before .before .before .before .before .hand-out .ensures .1) (c .before .before .put-vector .ensures),
-  refl,
-)
+returns c =
+    let args = c .before .before .before .before .before .before .before .before .before .before .before .before .before .before .before .args in
+    let pre = c .before .before .before .before .before .before .before .before .before .before .before .before .before .before .before .pre in
+    let kind-in = c .before .before .before .before .before .before .before .before .kind-in in
+    let diagram-step = c .before .before .before .before .before .before .before .diagram-step in
+    let hand-out = c .before .before .before .before .before .before .hand-out in (
+      run-general (now (args .line)) (now (args .room)) (args .p) (args .s) (args .b .header) (args .b .payload) (pre .1) (args .class) (args .vector) (pre .2)
+          (args .history) (pre .4) (c .before .before .put-vector .last .0) (diagram-step .result) (hand-out .result .vector) (hand-out .result .handed)
+          (diagram-step .ensures ∙ ap (λ (k : Kind). diagramOf (args .s .state) k (args .ends)) (kind-in .ensures) ∙ ap (diagramOf (args .s .state) (kindIn (args .s .class))) (pre .3))
+          (hand-out .ensures .0) (hand-out .ensures .1) (c .before .before .put-vector .ensures),
+      refl,
+    )
 
 pub general-step-spec : {M : Type 1} → statement M
 general-step-spec =

@@ -16,8 +16,19 @@ idle-requires : tie.Need-idle-requires
 idle-requires c κs = search needs
 
 steady-step-requires : tie.Need-steady-step-requires
-steady-step-requires c κs = let ed = c .before .before .before .before .before .args .p .receiver .link .edition in
-    (c .before .before .before .before .before .pre .0, c .before .before .before .before .before .pre .1, record { class = idle-answer ed _ (c .before .before .before .before .before .pre .3) .0; vector = c .idle .ensures ed ∙ ap (decoded ed 1) (sym (c .before .before .before .before .before .pre .3)); good = refl }, c .before .before .before .before .before .pre .2, refl, refl, c .before .before .descramble .ensures .1)
+steady-step-requires c κs =
+    let args = c .before .before .before .before .before .args in
+    let pre = c .before .before .before .before .before .pre in
+    let descramble = c .before .before .descramble in
+    let ed = args .p .receiver .link .edition in (
+      pre .0,
+      pre .1,
+      record { class = idle-answer ed _ (pre .3) .0; vector = c .idle .ensures ed ∙ ap (decoded ed 1) (sym (pre .3)); good = refl },
+      pre .2,
+      refl,
+      refl,
+      descramble .ensures .1,
+    )
 
 same-length : tie.Need-same-length
 same-length c = search needs

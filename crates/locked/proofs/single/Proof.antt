@@ -27,46 +27,58 @@ may-follow-requires : tie.Need-may-follow-requires
 may-follow-requires c κs = search needs
 
 general-step-requires : tie.Need-general-step-requires
-general-step-requires c κs = let line = now (c .before .before .before .before .before .before .before .before .before .before .before .args .line) in
-    let pos : ℕ = c .before .before .before .before .before .before .before .before .before .before .before .args .p .pos + 66 * c .before .before .before .before .before .before .before .before .before .before .before .args .s .count in
-    let ed = c .before .before .before .before .before .before .before .before .before .before .before .args .p .receiver .link .edition in
-    let told = c .before .before .before .before .before .at-once .ensures (c .before .before .before .before .if1 .taken) in
-    let small : c .before .before .before .before .before .before .before .before .before .before .before .args .b .header < 4 = subst (λ (n : ℕ). n < 4) (sym (c .before .before .before .before .before .before .before .before .before .before .before .pre .2)) (number-lt 2 (λ i. lineBit line (pos + i)) (λ i q. lineBit-lt line (pos + i))) in (
-      c .before .before .before .before .before .before .before .before .before .before .before .pre .0,
+general-step-requires c κs =
+    let args = c .before .before .before .before .before .before .before .before .before .before .before .args in
+    let pre = c .before .before .before .before .before .before .before .before .before .before .before .pre in
+    let descramble = c .before .before .before .before .before .before .descramble in
+    let at-once = c .before .before .before .before .before .at-once in
+    let if1 = c .before .before .before .before .if1 in
+    let line = now (args .line) in
+    let pos : ℕ = args .p .pos + 66 * args .s .count in
+    let ed = args .p .receiver .link .edition in
+    let told = at-once .ensures (if1 .taken) in
+    let small : args .b .header < 4 = subst (λ (n : ℕ). n < 4) (sym (pre .2)) (number-lt 2 (λ i. lineBit line (pos + i)) (λ i q. lineBit-lt line (pos + i))) in (
+      pre .0,
       record {
-        under = c .before .before .before .before .before .before .before .before .before .before .before .pre .1 .under;
-        lock = c .before .before .before .before .before .before .before .before .before .before .before .pre .1 .lock;
-        here = c .before .before .before .before .before .before .before .before .before .before .before .pre .1 .here;
-        header = c .before .before .before .before .before .before .before .before .before .before .before .pre .2;
-        payload = c .before .before .before .before .before .before .before .before .before .before .before .pre .3;
-        valid = good-valid ed (c .before .before .before .before .before .before .before .before .before .before .before .args .b .header) (c .before .before .before .before .before .before .descramble .result .word) (c .before .before .before .before .before .at-once .result .class) small (told .0) (told .2);
-        more = c .before .before .before .before .before .before .before .before .before .before .before .pre .1 .more;
+        under = pre .1 .under;
+        lock = pre .1 .lock;
+        here = pre .1 .here;
+        header = pre .2;
+        payload = pre .3;
+        valid = good-valid ed (args .b .header) (descramble .result .word) (at-once .result .class) small (told .0) (told .2);
+        more = pre .1 .more;
       },
       record {
-        class = told .0 ∙ ap (classOf ed (c .before .before .before .before .before .before .before .before .before .before .before .args .b .header)) (c .before .before .before .before .before .before .descramble .ensures .0);
-        vector = told .1 ∙ ap (decoded ed (c .before .before .before .before .before .before .before .before .before .before .before .args .b .header)) (c .before .before .before .before .before .before .descramble .ensures .0);
+        class = told .0 ∙ ap (classOf ed (args .b .header)) (descramble .ensures .0);
+        vector = told .1 ∙ ap (decoded ed (args .b .header)) (descramble .ensures .0);
         good = told .2;
       },
       c .before .may-follow .ensures ∙ ap follows (c .before .before .kind-in .ensures),
-      c .before .before .before .before .before .before .descramble .ensures .1,
+      descramble .ensures .1,
     )
 
 same-length : tie.Need-same-length
 same-length c = search needs
 
 returns : tie.Need-returns
-returns c = let s = c .before .before .general-step .ensures .0 in (
-  stretch-turn (now (c .before .before .before .before .before .before .before .before .before .before .before .before .before .before .args .line)) (now (c .before .before .before .before .before .before .before .before .before .before .before .before .before .before .args .room)) (c .before .before .general-step .last .1 .0) (ranOf (c .before .before .before .before .before .before .before .before .before .before .before .before .before .before .args .p) (c .before .before .before .before .before .before .before .before .before .before .before .before .before .before .args .s)) (ranOf (c .before .before .before .before .before .before .before .before .before .before .before .before .before .before .args .p) (c .before .before .general-step .result)) (s .turns) (omega (arith, s .pos, c .before .before .before .before .before .before .before .before .before .before .before .before .before .before .pre .1 .here)),
-  s .lock,
-  λ l. c .before .before .general-step .ensures .1,
-)
+returns c =
+    let args = c .before .before .before .before .before .before .before .before .before .before .before .before .before .before .args in
+    let pre = c .before .before .before .before .before .before .before .before .before .before .before .before .before .before .pre in
+    let general-step = c .before .before .general-step in
+    let s = general-step .ensures .0 in (
+      stretch-turn (now (args .line)) (now (args .room)) (general-step .last .1 .0) (ranOf (args .p) (args .s)) (ranOf (args .p) (general-step .result)) (s .turns) (omega (arith, s .pos, pre .1 .here)),
+      s .lock,
+      λ l. general-step .ensures .1,
+    )
 
 returns-2 : tie.Need-returns-2
-returns-2 c = (
-  stretch-first (now (c .before .before .before .before .before .before .before .args .line)) (now (c .before .before .before .before .before .before .before .args .room)) (ranOf (c .before .before .before .before .before .before .before .args .p) (c .before .before .before .before .before .before .before .args .s)) (c .before .before .before .before .before .before .before .pre .1 .under) (omega (arith, c .before .before .before .before .before .before .before .pre .1 .here)),
-  c .before .before .before .before .before .before .before .pre .1 .lock,
-  λ l. absurd (omega (arith, l)),
-)
+returns-2 c =
+    let args = c .before .before .before .before .before .before .before .args in
+    let pre = c .before .before .before .before .before .before .before .pre in (
+      stretch-first (now (args .line)) (now (args .room)) (ranOf (args .p) (args .s)) (pre .1 .under) (omega (arith, pre .1 .here)),
+      pre .1 .lock,
+      λ l. absurd (omega (arith, l)),
+    )
 
 pub single-spec : {M : Type 1} → statement M
 single-spec =

@@ -7,13 +7,23 @@ use Rattle.locked.proofs.steady_step.Statement.{statement}
 use Rattle.locked.proofs.steady_step.Tie as tie
 
 add-end : tie.Need-add-end
-add-end c = search (needs, one-fits (now (c .before .before .before .args .line)) (now (c .before .before .before .args .room)) (ranOf (c .before .before .before .args .p) (c .before .before .before .args .s)) (c .before .before .before .args .b .header) (c .before .before .before .args .b .payload) (c .before .before .before .pre .1) (c .before .before .before .args .class) (c .before .before .before .args .held) (c .before .before .before .pre .2))
+add-end c =
+    let args = c .before .before .before .args in
+    let pre = c .before .before .before .pre in
+    search (
+      needs,
+      one-fits (now (args .line)) (now (args .room)) (ranOf (args .p) (args .s)) (args .b .header) (args .b .payload) (pre .1) (args .class) (args .held)
+          (pre .2),
+    )
 
 add-count : tie.Need-add-count
 add-count c = search needs
 
 put-vector-requires : tie.Need-put-vector-requires
-put-vector-requires c κs = one-fits (now (c .before .before .before .before .before .before .before .args .line)) (now (c .before .before .before .before .before .before .before .args .room)) (ranOf (c .before .before .before .before .before .before .before .args .p) (c .before .before .before .before .before .before .before .args .s)) (c .before .before .before .before .before .before .before .args .b .header) (c .before .before .before .before .before .before .before .args .b .payload) (c .before .before .before .before .before .before .before .pre .1) (c .before .before .before .before .before .before .before .args .class) (c .before .before .before .before .before .before .before .args .held) (c .before .before .before .before .before .before .before .pre .2)
+put-vector-requires c κs =
+    let args = c .before .before .before .before .before .before .before .args in
+    let pre = c .before .before .before .before .before .before .before .pre in
+    one-fits (now (args .line)) (now (args .room)) (ranOf (args .p) (args .s)) (args .b .header) (args .b .payload) (pre .1) (args .class) (args .held) (pre .2)
 
 count-vector-requires : tie.Need-count-vector-requires
 count-vector-requires c κs = search needs
@@ -22,12 +32,17 @@ same-length : tie.Need-same-length
 same-length c = search needs
 
 returns : tie.Need-returns
-returns c = (
-  run-steady (now (c .before .before .before .before .before .before .before .before .before .before .before .args .line)) (now (c .before .before .before .before .before .before .before .before .before .before .before .args .room)) (c .before .before .before .before .before .before .before .before .before .before .before .args .p) (c .before .before .before .before .before .before .before .before .before .before .before .args .s) (c .before .before .before .before .before .before .before .before .before .before .before .args .b .header) (c .before .before .before .before .before .before .before .before .before .before .before .args .b .payload) (c .before .before .before .before .before .before .before .before .before .before .before .pre .1) (c .before .before .before .before .before .before .before .before .before .before .before .args .class) (c .before .before .before .before .before .before .before .before .before .before .before .args .held) (c .before .before .before .before .before .before .before .before .before .before .before .pre .2) (c .before .before .before .before .before .before .before .before .before .before .before .args .history) (c .before .before .before .before .before .before .before .before .before .before .before .pre .6) (c .before .before .before .put-vector .last .0) (c .before .before .before .before .before .before .before .before .before .before .before .args .state) (c .count-vector .result) (c .before .before .before .before .before .before .before .before .before .before .before .pre .3) (c .before .before .before .before .before .before .before .before .before .before .before .pre .4) (c .before .before .before .before .before .before .before .before .before .before .before .pre .5) (c .count-vector .ensures) (c .before .before .before .put-vector .ensures),
-  refl,
-  refl,
-  refl,
-)
+returns c =
+    let args = c .before .before .before .before .before .before .before .before .before .before .before .args in
+    let pre = c .before .before .before .before .before .before .before .before .before .before .before .pre in
+    let put-vector = c .before .before .before .put-vector in (
+      run-steady (now (args .line)) (now (args .room)) (args .p) (args .s) (args .b .header) (args .b .payload) (pre .1) (args .class) (args .held) (pre .2)
+          (args .history) (pre .6) (put-vector .last .0) (args .state) (c .count-vector .result) (pre .3) (pre .4) (pre .5) (c .count-vector .ensures)
+          (put-vector .ensures),
+      refl,
+      refl,
+      refl,
+    )
 
 pub steady-step-spec : {M : Type 1} → statement M
 steady-step-spec =

@@ -14,16 +14,29 @@ enum-known-s : tie.Need-enum-known-s
 enum-known-s c = search needs
 
 mul-n : tie.Need-mul-n
-mul-n c = omega (arith, vectors-small _ _ (c .before .before .before .before .before .before .before .before .before .before .pre .0) _ _ (sym (ap answerOf (c .before .s .given .1)) ∙ c .before .before .before .before .before .receive .ensures .0) (c .before .before .before .before .before .receive .ensures .1) (c .before .before .before .before .before .receive .kept .1 .1 .0))
+mul-n c =
+    let pre = c .before .before .before .before .before .before .before .before .before .before .pre in
+    let receive = c .before .before .before .before .before .receive in
+    omega (arith, vectors-small _ _ (pre .0) _ _ (sym (ap answerOf (c .before .s .given .1)) ∙ receive .ensures .0) (receive .ensures .1) (receive .kept .1 .1 .0))
 
 body-requires : tie.Need-body-requires
 body-requires c κs = search needs
 
 hex-lines-requires : tie.Need-hex-lines-requires
-hex-lines-requires c κs = omega (arith, c .before .before .before .before .before .before .before .before .before .before .before .before .before .pre .1, lines-fit _ _ (c .before .before .before .before .before .before .before .before .before .before .before .before .before .pre .0) _ _ (sym (ap answerOf (c .before .before .before .before .s .given .1)) ∙ c .before .before .before .before .before .before .before .before .receive .ensures .0) (c .before .before .before .before .before .before .before .before .receive .ensures .1) (c .before .before .before .before .before .before .before .before .receive .kept .1 .1 .0) _ (c .before .body .ensures))
+hex-lines-requires c κs =
+    let pre = c .before .before .before .before .before .before .before .before .before .before .before .before .before .pre in
+    let receive = c .before .before .before .before .before .before .before .before .receive in
+    omega
+    (arith, pre .1, lines-fit _ _ (pre .0) _ _ (sym (ap answerOf (c .before .before .before .before .s .given .1)) ∙ receive .ensures .0) (receive .ensures .1) (receive .kept .1 .1 .0) _ (c .before .body .ensures))
 
 summary-lines-requires : tie.Need-summary-lines-requires
-summary-lines-requires c κs = omega (arith, c .before .before .before .before .before .before .before .before .before .before .before .before .before .before .before .before .before .before .pre .1, c .before .before .before .before .hex-lines .kept .1 .0, lines-end _ _ (c .before .before .before .before .before .before .before .before .before .before .before .before .before .before .before .before .before .before .pre .0) _ _ (sym (ap answerOf (c .before .before .before .before .before .before .before .before .before .s .given .1)) ∙ c .before .before .before .before .before .before .before .before .before .before .before .before .before .receive .ensures .0) (c .before .before .before .before .before .before .before .before .before .before .before .before .before .receive .ensures .1) (c .before .before .before .before .before .before .before .before .before .before .before .before .before .receive .kept .1 .1 .0) _ (c .before .before .before .before .before .before .body .ensures) _ _ _ (c .before .before .before .before .hex-lines .ensures))
+summary-lines-requires c κs =
+    let pre = c .before .before .before .before .before .before .before .before .before .before .before .before .before .before .before .before .before .before .pre in
+    let receive = c .before .before .before .before .before .before .before .before .before .before .before .before .before .receive in
+    let s = c .before .before .before .before .before .before .before .before .before .s in
+    let hex-lines = c .before .before .before .before .hex-lines in
+    omega
+    (arith, pre .1, hex-lines .kept .1 .0, lines-end _ _ (pre .0) _ _ (sym (ap answerOf (s .given .1)) ∙ receive .ensures .0) (receive .ensures .1) (receive .kept .1 .1 .0) _ (c .before .before .before .before .before .before .body .ensures) _ _ _ (hex-lines .ensures))
 
 enum-known-why : tie.Need-enum-known-why
 enum-known-why c = search needs
@@ -38,7 +51,14 @@ same-length-2 : tie.Need-same-length-2
 same-length-2 c = search needs
 
 returns : tie.Need-returns
-returns c = received-written _ _ (c .before .before .before .before .before .before .before .before .before .before .before .before .before .before .before .before .before .before .before .before .before .pre .0) _ _ (sym (ap answerOf (c .before .before .before .before .before .before .before .before .before .before .before .before .s .given .1)) ∙ c .before .before .before .before .before .before .before .before .before .before .before .before .before .before .before .before .receive .ensures .0) (c .before .before .before .before .before .before .before .before .before .before .before .before .before .before .before .before .receive .ensures .1) (c .before .before .before .before .before .before .before .before .before .before .before .before .before .before .before .before .receive .kept .1 .1 .0) _ (c .before .before .before .before .before .before .before .before .before .body .ensures) _ _ _ (c .before .before .before .before .before .before .before .hex-lines .ensures) _ _ (c .before .before .before .before .before .before .before .before .before .before .before .before .before .before .before .before .before .before .before .before .before .pre .1) (c .before .before .summary-lines .ensures)
+returns c =
+    let pre = c .before .before .before .before .before .before .before .before .before .before .before .before .before .before .before .before .before .before .before .before .before .pre in
+    let receive = c .before .before .before .before .before .before .before .before .before .before .before .before .before .before .before .before .receive in
+    let s = c .before .before .before .before .before .before .before .before .before .before .before .before .s in
+    let body = c .before .before .before .before .before .before .before .before .before .body in
+    received-written _ _ (pre .0) _ _ (sym (ap answerOf (s .given .1)) ∙ receive .ensures .0) (receive .ensures .1) (receive .kept .1 .1 .0) _
+    (body .ensures) _ _ _ (c .before .before .before .before .before .before .before .hex-lines .ensures) _ _ (pre .1)
+    (c .before .before .summary-lines .ensures)
 
 same-length-3 : tie.Need-same-length-3
 same-length-3 c = search needs
@@ -47,7 +67,13 @@ same-length-4 : tie.Need-same-length-4
 same-length-4 c = search needs
 
 returns-2 : tie.Need-returns-2
-returns-2 c = refused-written _ (now (c .before .before .before .before .before .before .before .before .before .before .before .before .before .before .args .vectors)) (c .before .before .before .before .before .before .before .before .before .before .before .before .before .before .pre .0) _ _ _ _ _ (sym (ap answerOf (c .before .before .before .before .before .why .given .1)) ∙ c .before .before .before .before .before .before .before .before .before .receive .ensures .0) (c .before .before .refused-line .ensures)
+returns-2 c =
+    let args = c .before .before .before .before .before .before .before .before .before .before .before .before .before .before .args in
+    let pre = c .before .before .before .before .before .before .before .before .before .before .before .before .before .before .pre in
+    let receive = c .before .before .before .before .before .before .before .before .before .receive in
+    refused-written _ (now (args .vectors)) (pre .0) _ _ _ _ _
+    (sym (ap answerOf (c .before .before .before .before .before .why .given .1)) ∙ receive .ensures .0)
+    (c .before .before .refused-line .ensures)
 
 pub received-output-spec : {M : Type 1} → statement M
 received-output-spec =

@@ -1,7 +1,7 @@
 use Prim.Native.Nat.{ℕ}
 use lib.ListN.{length-replicate}
-use Rattle.programs.specs.Programs.{senderOutput}
-use Rattle.programs.proofs.Reading.{sender-shown, by-reads}
+use Rattle.programs.specs.Programs.{senderText}
+use Rattle.programs.proofs.Reading.{by-reads}
 use borrow.Author.Needs.{needs}
 use Rattle.programs.proofs.sender_from.Statement.{statement}
 use Rattle.programs.proofs.sender_from.Tie as tie
@@ -16,7 +16,7 @@ sender-output-requires : tie.Need-sender-output-requires
 sender-output-requires c κs = search needs
 
 returns : tie.Need-returns
-returns c = (by-reads senderOutput sender-shown 1 60000 _ _ _ _ _ _ (length-replicate {A = ℕ} 60000 0) (c .before .before .before .before .gathered .ensures) (c .sender-output .ensures .0), c .sender-output .ensures .1)
+returns c = (by-reads senderText 1 60000 _ _ _ _ _ _ (length-replicate {A = ℕ} 60000 0) (c .before .before .before .before .gathered .ensures) (c .sender-output .ensures .0), c .sender-output .ensures .1)
 
 pub sender-from-spec : {M : Type 1} → statement M
 sender-from-spec =

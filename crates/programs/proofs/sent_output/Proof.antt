@@ -20,7 +20,11 @@ body-requires : tie.Need-body-requires
 body-requires c κs = search needs
 
 line-records-requires : tie.Need-line-records-requires
-line-records-requires c κs = omega (arith, c .before .before .before .before .before .before .before .before .before .before .before .before .pre .2, body-fits _ _ (c .before .before .before .before .before .before .before .before .before .before .before .before .pre .1) _ _ _ _ (sym (ap answerOf (c .before .before .before .enum-told .given .1)) ∙ c .before .before .before .before .before .before .before .send .ensures .0) (c .before .before .before .before .before .before .before .send .ensures .1) _ (c .before .body .ensures) (c .before .before .before .before .before .before .before .before .before .before .before .before .pre .0))
+line-records-requires c κs =
+    let pre = c .before .before .before .before .before .before .before .before .before .before .before .before .pre in
+    let send = c .before .before .before .before .before .before .before .send in
+    omega
+    (arith, pre .2, body-fits _ _ (pre .1) _ _ _ _ (sym (ap answerOf (c .before .before .before .enum-told .given .1)) ∙ send .ensures .0) (send .ensures .1) _ (c .before .body .ensures) (pre .0))
 
 enum-known-why : tie.Need-enum-known-why
 enum-known-why c = search needs
@@ -35,7 +39,11 @@ same-length-2 : tie.Need-same-length-2
 same-length-2 c = search needs
 
 returns : tie.Need-returns
-returns c = sent-written _ _ (c .before .before .before .before .before .before .before .before .before .before .before .before .before .before .before .pre .1) _ _ _ _ (sym (ap answerOf (c .before .before .before .before .before .before .enum-told .given .1)) ∙ c .before .before .before .before .before .before .before .before .before .before .send .ensures .0) (c .before .before .before .before .before .before .before .before .before .before .send .ensures .1) _ (c .before .before .before .before .body .ensures) _ _ _ (c .before .before .line-records .ensures)
+returns c =
+    let pre = c .before .before .before .before .before .before .before .before .before .before .before .before .before .before .before .pre in
+    let send = c .before .before .before .before .before .before .before .before .before .before .send in
+    sent-written _ _ (pre .1) _ _ _ _ (sym (ap answerOf (c .before .before .before .before .before .before .enum-told .given .1)) ∙ send .ensures .0)
+    (send .ensures .1) _ (c .before .before .before .before .body .ensures) _ _ _ (c .before .before .line-records .ensures)
 
 same-length-3 : tie.Need-same-length-3
 same-length-3 c = search needs
@@ -44,7 +52,11 @@ same-length-4 : tie.Need-same-length-4
 same-length-4 c = search needs
 
 returns-2 : tie.Need-returns-2
-returns-2 c = refused-written _ (now (c .before .before .before .before .before .before .before .before .before .before .before .before .before .before .args .line)) (c .before .before .before .before .before .before .before .before .before .before .before .before .before .before .pre .1) _ _ _ _ _ (sym (ap answerOf (c .before .before .before .before .before .why .given .1)) ∙ c .before .before .before .before .before .before .before .before .before .send .ensures .0) (c .before .before .refused-line .ensures)
+returns-2 c =
+    let args = c .before .before .before .before .before .before .before .before .before .before .before .before .before .before .args in
+    let pre = c .before .before .before .before .before .before .before .before .before .before .before .before .before .before .pre in
+    let send = c .before .before .before .before .before .before .before .before .before .send in
+    refused-written _ (now (args .line)) (pre .1) _ _ _ _ _ (sym (ap answerOf (c .before .before .before .before .before .why .given .1)) ∙ send .ensures .0) (c .before .before .refused-line .ensures)
 
 pub sent-output-spec : {M : Type 1} → statement M
 sent-output-spec =

@@ -37,10 +37,15 @@ same-length c = search needs
 
 returns-4 : tie.Need-returns-4
 returns-4 c =
-    let line = now (c .before .before .before .before .before .before .before .before .before .before .args .line) in
-    let room = now (c .before .before .before .before .before .before .before .before .before .before .args .room) in
-    let ed = c .before .before .before .before .edition-of .ensures in
-    let v = passes (c .before .before .before .before .before .before .before .before .before .before .args .edition) line room (c .before .before .before .before .before .before .before .if1 .left) (c .before .before .before .before .before .before .if2 .left) (c .before .before .before .before .before .if3 .left) in (
+    let args = c .before .before .before .before .before .before .before .before .before .before .args in
+    let if1 = c .before .before .before .before .before .before .before .if1 in
+    let if2 = c .before .before .before .before .before .before .if2 in
+    let if3 = c .before .before .before .before .before .if3 in
+    let edition-of = c .before .before .before .before .edition-of in
+    let line = now (args .line) in
+    let room = now (args .room) in
+    let ed = edition-of .ensures in
+    let v = passes (args .edition) line room (if1 .left) (if2 .left) (if3 .left) in (
       ap received (c .before .before .receive-all .ensures .0) ∙ ap (λ (e : Edition). received (summaryOf e line)) ed ∙ v .0,
       c .before .before .receive-all .ensures .1 ∙ ap (λ (e : Edition). receivedVectors e line ++ drop (length (receivedVectors e line)) room) ed ∙ v .1,
     )

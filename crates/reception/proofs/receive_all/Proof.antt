@@ -4,7 +4,7 @@ use native.Mathlib.Omega.{arith}
 use borrow.Author.Needs.{needs}
 use denote.Ref.{now}
 use Rattle.receiving.proofs.Counted.{handed-wide}
-use Rattle.receiving.proofs.Closing.{written-fits, last-fits, room-is, summary-is}
+use Rattle.reception.proofs.Closing.{written-fits, last-fits, room-is, summary-is}
 use Rattle.reception.proofs.receive_all.Statement.{statement}
 use Rattle.reception.proofs.receive_all.Tie as tie
 
@@ -32,13 +32,18 @@ same-length c = c .before .before .before .before .receive-last .kept .0 ∙ c .
 
 returns : tie.Need-returns
 returns c =
-    let args = c .before .before .before .before .before .before .before .before .before .before .before .before .before .before .before .before .before .args in
-    let fresh = c .before .before .before .before .before .before .before .before .before .before .before .before .before .fresh in
-    let more = c .before .before .before .before .before .before .before .before .before .before .before .before .receive-more in
-    let last = c .before .before .before .before .receive-last in (
-      summary-is (args .edition) (now (args .line)) (now (args .room)) (fresh .result) (fresh .ensures) (c .before .before .before .before .before .before .before .before .before .before .before .before .before .before .before .before .before .pre .1) (more .last .1 .0) (more .result) (more .ensures)
+    let args-2 = c .before .before .before .before .before .before .before .before .before .before .before .before .before .before .before .before .before .args in
+    let pre = c .before .before .before .before .before .before .before .before .before .before .before .before .before .before .before .before .before .pre in
+    let fresh-2 = c .before .before .before .before .before .before .before .before .before .before .before .before .before .fresh in
+    let receive-more = c .before .before .before .before .before .before .before .before .before .before .before .before .receive-more in
+    let receive-last = c .before .before .before .before .receive-last in
+    let args = args-2 in
+    let fresh = fresh-2 in
+    let more = receive-more in
+    let last = receive-last in (
+      summary-is (args .edition) (now (args .line)) (now (args .room)) (fresh .result) (fresh .ensures) (pre .1) (more .last .1 .0) (more .result) (more .ensures)
           (last .result .alone) (last .result .handed) (last .ensures .2) (last .ensures .1),
-      room-is (args .edition) (now (args .line)) (now (args .room)) (fresh .result) (fresh .ensures) (c .before .before .before .before .before .before .before .before .before .before .before .before .before .before .before .before .before .pre .1) (more .last .1 .0) (more .result) (more .ensures)
+      room-is (args .edition) (now (args .line)) (now (args .room)) (fresh .result) (fresh .ensures) (pre .1) (more .last .1 .0) (more .result) (more .ensures)
           (last .last .0) (last .ensures .0),
     )
 

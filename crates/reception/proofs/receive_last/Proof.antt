@@ -24,8 +24,10 @@ same-length c = search needs
 
 returns : tie.Need-returns
 returns c =
-    let e = c .before .before .before .before .settle-held .ensures in
-    (e .2, e .3, alone-by (c .before .before .before .before .before .before .before .before .args .r .have) (c .judged-alone .result) (c .before .before .before .before .settle-held .result .state) (c .before .before .before .before .before .before .before .before .args .r .state) (c .before .before .before .before .before .before .before .before .args .r .held) (c .judged-alone .ensures) (e .0))
+    let args = c .before .before .before .before .before .before .before .before .args in
+    let settle-held = c .before .before .before .before .settle-held in
+    let e = settle-held .ensures in
+    (e .2, e .3, alone-by (args .r .have) (c .judged-alone .result) (settle-held .result .state) (args .r .state) (args .r .held) (c .judged-alone .ensures) (e .0))
 
 pub receive-last-spec : {M : Type 1} → statement M
 receive-last-spec = tie.close (tie.spec settle-held-requires judged-alone-requires same-length returns)

@@ -4,8 +4,7 @@ use Prim.Native.Nat.{_*_, _-_}
 use borrow.Author.Needs.{needs}
 use denote.Ref.{now}
 use lib.ListN.{length}
-use Rattle.receiving.proofs.Turning.{Looping, loop-first, loop-next, loop-ends}
-use Rattle.receiving.proofs.Stretching.{loop-stretch}
+use Rattle.reception.proofs.Looping.{Looping, loop-first, loop-next, loop-stretch, loop-ends}
 use Rattle.reception.proofs.receive_more.Statement.{statement}
 use Rattle.reception.proofs.receive_more.Tie as tie
 
@@ -34,16 +33,25 @@ turn-requires : tie.Need-turn-requires Inv-loop μ-loop
 turn-requires c κs = (c .before .before .before .before .before .before .before .before .before .before .before .before .before .before .pre .0, c .before .before .before .hunt .ensures .under, c .before .before .before .hunt .ensures .ends)
 
 loop-less : tie.Need-loop-less Inv-loop μ-loop
-loop-less c = omega (arith, c .before .before .before .before .before .before .before .before .before .before .stretch .ensures .past, c .before .before .before .before .before .before .hunt .ensures .past, c .before .before .before .before .before .before .hunt .ensures .ends, c .before .before .turn .ensures .past)
+loop-less c =
+    let stretch = c .before .before .before .before .before .before .before .before .before .before .stretch in
+    let hunt = c .before .before .before .before .before .before .hunt in
+    let turn = c .before .before .turn in
+    omega (arith, stretch .ensures .past, hunt .ensures .past, hunt .ensures .ends, turn .ensures .past)
 
 loop-again : tie.Need-loop-again Inv-loop μ-loop
 loop-again c =
-    let line = now (c .before .before .before .before .before .before .before .before .before .before .before .before .before .before .before .before .before .args .line) in
-    let room = now (c .before .before .before .before .before .before .before .before .before .before .before .before .before .before .before .before .before .args .room) in
-    loop-next line room (c .before .before .before .before .before .before .hunt .last .1 .0) (c .before .before .turn .last .1 .0) _ (c .before .before .before .before .before .before .hunt .result) (c .before .before .turn .result)
-    (loop-stretch line room (c .before .before .before .before .before .before .before .before .before .before .stretch .last .1 .0) (c .before .before .before .before .before .before .hunt .last .1 .0) _ (c .before .before .before .before .before .before .before .before .before .before .stretch .result) (c .before .before .before .before .before .before .hunt .result)
-    (loop-stretch line room (c .before .before .before .before .before .before .before .before .before .before .before .before .before .before .loop .room) (c .before .before .before .before .before .before .before .before .before .before .stretch .last .1 .0) _ (c .before .before .before .before .before .before .before .before .before .before .before .before .before .before .loop .p) (c .before .before .before .before .before .before .before .before .before .before .stretch .result) (c .before .before .before .before .before .before .before .before .before .before .before .before .before .before .loop .inv) (c .before .before .before .before .before .before .before .before .before .before .stretch .ensures)) (c .before .before .before .before .before .before .hunt .ensures))
-    (c .before .before .turn .ensures)
+    let args = c .before .before .before .before .before .before .before .before .before .before .before .before .before .before .before .before .before .args in
+    let loop = c .before .before .before .before .before .before .before .before .before .before .before .before .before .before .loop in
+    let stretch = c .before .before .before .before .before .before .before .before .before .before .stretch in
+    let hunt = c .before .before .before .before .before .before .hunt in
+    let turn = c .before .before .turn in
+    let line = now (args .line) in
+    let room = now (args .room) in
+    loop-next line room (hunt .last .1 .0) (turn .last .1 .0) _ (hunt .result) (turn .result)
+    (loop-stretch line room (stretch .last .1 .0) (hunt .last .1 .0) _ (stretch .result) (hunt .result)
+    (loop-stretch line room (loop .room) (stretch .last .1 .0) _ (loop .p) (stretch .result) (loop .inv) (stretch .ensures)) (hunt .ensures))
+    (turn .ensures)
 
 same-length : tie.Need-same-length Inv-loop μ-loop
 same-length c = c .before .before .loop .inv .len

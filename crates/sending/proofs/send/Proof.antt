@@ -72,7 +72,13 @@ edition-of-requires c κs = search needs
 
 send-all-requires : tie.Need-send-all-requires
 send-all-requires c κs =
-    (c .before .before .before .before .before .before .before .if2 .left, c .before .before .before .before .before .before .if3 .left, c .before .before .before .before .if5 .left, low (now (c .before .before .before .before .before .before .before .before .before .before .before .args .vectors)) (c .before .before .before .first-high .result) (c .before .before .before .before .before .before .if3 .left) (c .before .before .before .first-high .ensures) (c .before .before .if6 .left))
+    let args = c .before .before .before .before .before .before .before .before .before .before .before .args in
+    let if2 = c .before .before .before .before .before .before .before .if2 in
+    let if3 = c .before .before .before .before .before .before .if3 in
+    let if5 = c .before .before .before .before .if5 in
+    let first-high = c .before .before .before .first-high in
+    let if6 = c .before .before .if6 in
+    (if2 .left, if3 .left, if5 .left, low (now (args .vectors)) (first-high .result) (if3 .left) (first-high .ensures) (if6 .left))
 
 same-length : tie.Need-same-length
 same-length c = search needs

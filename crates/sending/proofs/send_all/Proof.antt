@@ -4,7 +4,7 @@ use mathlib.Core.Path.{refl, sym, subst}
 use Prim.Native.Nat.{ℕ}
 use denote.Ref.{now}
 use Rattle.scrambler.proofs.Laws.{mirror-lt}
-use Rattle.sending.proofs.Answers.{answered, placed}
+use Rattle.sending.proofs.Answers.{answered, line-placed}
 use borrow.Author.Needs.{needs}
 use Rattle.sending.proofs.send_all.Statement.{statement}
 use Rattle.sending.proofs.send_all.Tie as tie
@@ -14,7 +14,10 @@ mirrored-requires c κs = search needs
 
 send-groups-requires : tie.Need-send-groups-requires
 send-groups-requires c κs =
-    (c .before .before .before .before .pre .0, c .before .before .before .before .pre .1, c .before .before .before .before .pre .2, subst (λ (h : ℕ). h < 2 ^ 58) (sym (c .before .mirrored .ensures)) (mirror-lt (c .before .before .before .before .args .start)), refl, c .before .before .before .before .pre .3)
+    let pre = c .before .before .before .before .pre in
+    let args = c .before .before .before .before .args in
+    let mirrored = c .before .mirrored in
+    (pre .0, pre .1, pre .2, subst (λ (h : ℕ). h < 2 ^ 58) (sym (mirrored .ensures)) (mirror-lt (args .start)), refl, pre .3)
 
 mirrored-requires-2 : tie.Need-mirrored-requires-2
 mirrored-requires-2 c κs = search needs
@@ -27,14 +30,17 @@ same-length c = search needs
 
 returns : tie.Need-returns
 returns c =
-    let b = now (c .before .before .before .before .before .before .before .before .before .args .vectors) in
-    let l = now (c .before .before .before .before .before .before .before .before .before .args .line) in
-    let e = c .before .before .before .before .before .before .mirrored .ensures in
-    let r = c .before .before .before .before .send-groups .result in
-    let ed = c .before .before .before .before .before .before .before .before .before .args .edition in
-    let f = c .before .before .before .before .send-groups .ensures in (
-      answered ed b l _ (c .before .before .before .before .before .before .before .before .before .args .start) (c .before .before .before .before .before .before .mirrored .result) r e f (c .before .mirrored2 .result) (c .state-number .result) (c .before .mirrored2 .ensures) (c .state-number .ensures .0),
-      placed ed b l _ (c .before .before .before .before .before .before .before .before .before .args .start) (c .before .before .before .before .before .before .mirrored .result) r e f,
+    let args = c .before .before .before .before .before .before .before .before .before .args in
+    let mirrored = c .before .before .before .before .before .before .mirrored in
+    let send-groups = c .before .before .before .before .send-groups in
+    let b = now (args .vectors) in
+    let l = now (args .line) in
+    let e = mirrored .ensures in
+    let r = send-groups .result in
+    let ed = args .edition in
+    let f = send-groups .ensures in (
+      answered ed b l _ (args .start) (mirrored .result) r e f (c .before .mirrored2 .result) (c .state-number .result) (c .before .mirrored2 .ensures) (c .state-number .ensures .0),
+      line-placed ed b l _ (args .start) (mirrored .result) r e f,
     )
 
 pub send-all-spec : {M : Type 1} → statement M

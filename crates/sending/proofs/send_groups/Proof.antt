@@ -3,12 +3,12 @@ use Prim.Native.Nat.{_-_}
 use native.Mathlib.Omega.{arith}
 use denote.Ref.{now}
 use borrow.Author.Needs.{needs}
-use Rattle.sending.proofs.Whole.{Sofar, first, few, small, same, turn, done}
+use Rattle.sending.proofs.Whole.{SentSofar, first, few, small, same, turn, done}
 use Rattle.sending.proofs.send_groups.Statement.{statement}
 use Rattle.sending.proofs.send_groups.Tie as tie
 
 abbrev Inv-loop : tie.InvT-loop
-Inv-loop edition bytes room₀ groups next₀ g₀ room next g = Sofar edition next₀ bytes room₀ room next g
+Inv-loop edition bytes room₀ groups next₀ g₀ room next g = SentSofar edition next₀ bytes room₀ room next g
 
 abbrev μ-loop : tie.MeasureT-loop
 μ-loop edition bytes room₀ groups next₀ g₀ room next g = groups - g
@@ -31,10 +31,15 @@ mul-put-group c = search needs
 
 put-group-requires : tie.Need-put-group-requires Inv-loop μ-loop
 put-group-requires c κs =
-    let a = c .before .before .before .before .before .before .before .before .before .before .args in
-    let l = c .before .before .before .before .before .before .before .loop in
-    let h = c .before .before .before .before .before .send-four .ensures .headers in
-    (omega (arith, same (a .edition) (a .s) (now (a .bytes)) (now (a .room)) (l .room) (l .next) (l .g) (l .inv) (c .before .before .before .before .before .before .before .before .before .before .pre .2), c .before .before .before .before .before .before .loop-test .taken, c .before .before .before .before .before .before .before .before .before .before .pre .2), h .first, h .second, h .third, h .fourth)
+    let args = c .before .before .before .before .before .before .before .before .before .before .args in
+    let pre = c .before .before .before .before .before .before .before .before .before .before .pre in
+    let loop = c .before .before .before .before .before .before .before .loop in
+    let loop-test = c .before .before .before .before .before .before .loop-test in
+    let send-four = c .before .before .before .before .before .send-four in
+    let a = args in
+    let l = loop in
+    let h = send-four .ensures .headers in
+    (omega (arith, same (a .edition) (a .s) (now (a .bytes)) (now (a .room)) (l .room) (l .next) (l .g) (l .inv) (pre .2), loop-test .taken, pre .2), h .first, h .second, h .third, h .fourth)
 
 add-g : tie.Need-add-g Inv-loop μ-loop
 add-g c = search needs
@@ -44,9 +49,14 @@ loop-less c = search needs
 
 loop-again : tie.Need-loop-again Inv-loop μ-loop
 loop-again c =
-    let a = c .before .before .before .before .before .before .before .before .before .before .before .before .before .before .args in
-    let l = c .before .before .before .before .before .before .before .before .before .before .before .loop in
-    turn (a .edition) (a .s) (now (a .bytes)) (now (a .room)) (l .room) (l .next) (l .g) (l .inv) (c .before .before .before .before .before .before .before .before .before .send-four .result) (c .before .before .before .put-group .last .0) (c .before .before .before .before .before .before .before .before .before .before .loop-test .taken) (c .before .before .before .before .before .before .before .before .before .send-four .ensures) (c .before .before .before .put-group .ensures)
+    let args = c .before .before .before .before .before .before .before .before .before .before .before .before .before .before .args in
+    let loop = c .before .before .before .before .before .before .before .before .before .before .before .loop in
+    let loop-test = c .before .before .before .before .before .before .before .before .before .before .loop-test in
+    let send-four = c .before .before .before .before .before .before .before .before .before .send-four in
+    let put-group = c .before .before .before .put-group in
+    let a = args in
+    let l = loop in
+    turn (a .edition) (a .s) (now (a .bytes)) (now (a .room)) (l .room) (l .next) (l .g) (l .inv) (send-four .result) (put-group .last .0) (loop-test .taken) (send-four .ensures) (put-group .ensures)
 
 same-length : tie.Need-same-length Inv-loop μ-loop
 same-length c =

@@ -25,7 +25,14 @@ same-length : tie.Need-same-length
 same-length c = search needs
 
 returns : tie.Need-returns
-returns c = flagged (c .before .before .before .before .before .before .before .before .before .before .before .args .s) (c .before .before .before .before .before .before .flag .result) (c .before .before .before .before .before .flag2 .result) (c .before .before .before .before .flag3 .result) (drop 96 (now (c .before .before .before .before .before .before .before .before .before .before .before .args .summary))) _ (c .before .before .before .before .before .before .flag .ensures) (c .before .before .before .before .before .flag2 .ensures) (c .before .before .before .before .flag3 .ensures) (c .before .before .put-words .ensures)
+returns c =
+    let args = c .before .before .before .before .before .before .before .before .before .before .before .args in
+    let flag = c .before .before .before .before .before .before .flag in
+    let flag2 = c .before .before .before .before .before .flag2 in
+    let flag3 = c .before .before .before .before .flag3 in
+    let put-words = c .before .before .put-words in
+    flagged (args .s) (flag .result) (flag2 .result) (flag3 .result) (drop 96 (now (args .summary))) _ (flag .ensures) (flag2 .ensures) (flag3 .ensures)
+    (put-words .ensures)
 
 pub put-summary-spec : {M : Type 1} → statement M
 put-summary-spec =

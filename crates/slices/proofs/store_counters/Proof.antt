@@ -29,7 +29,14 @@ same-length : tie.Need-same-length
 same-length c = search needs
 
 returns : tie.Need-returns
-returns c = c .before .before .put-words .ensures ∙ counters-put (c .before .before .before .before .before .before .before .before .before .before .args .c) _ _ _ _ (drop 32 (now (c .before .before .before .before .before .before .before .before .before .before .args .bytes))) (c .before .before .before .before .before .before .before .pair .ensures) (c .before .before .before .before .before .before .pair2 .ensures) (c .before .before .before .before .before .pair3 .ensures) (c .before .before .before .before .pair4 .ensures)
+returns c =
+    let args = c .before .before .before .before .before .before .before .before .before .before .args in
+    let pair = c .before .before .before .before .before .before .before .pair in
+    let pair2 = c .before .before .before .before .before .before .pair2 in
+    let pair3 = c .before .before .before .before .before .pair3 in
+    let pair4 = c .before .before .before .before .pair4 in
+    let put-words = c .before .before .put-words in
+    put-words .ensures ∙ counters-put (args .c) _ _ _ _ (drop 32 (now (args .bytes))) (pair .ensures) (pair2 .ensures) (pair3 .ensures) (pair4 .ensures)
 
 pub store-counters-spec : {M : Type 1} → statement M
 store-counters-spec =

@@ -39,7 +39,13 @@ loop-less c = search needs
 
 loop-again : tie.Need-loop-again Inv-loop μ-loop
 loop-again c =
-    (omega arith, search needs, taken-more (now (c .before .before .before .before .args .bytes)) (c .before .before .loop .w) (c .before .before .loop .i) (c .load .result) (omega arith) (loaded (now (c .before .before .before .before .args .bytes)) (c .before .before .loop .i) (c .load .result) (c .load .ensures)) (c .before .before .loop .inv .2))
+    let args = c .before .before .before .before .args in
+    let loop = c .before .before .loop in (
+      omega arith,
+      search needs,
+      taken-more (now (args .bytes)) (loop .w) (loop .i) (c .load .result) (omega arith)
+          (loaded (now (args .bytes)) (loop .i) (c .load .result) (c .load .ensures)) (loop .inv .2),
+    )
 
 state-of-requires : tie.Need-state-of-requires Inv-loop μ-loop
 state-of-requires c κs = search needs

@@ -111,7 +111,13 @@ array-read-t100 c = search needs
 
 returns : tie.Need-returns
 returns c =
-    state-is (c .before .before .before .before .before .before .args .t1) _ _ _ _ _ _ (c .before .before .before .before .before .is-yes .ensures) (c .before .before .before .before .is-yes2 .ensures) (c .before .before .before .is-yes3 .ensures) (c .before .before .is-yes4 .ensures) (c .before .is-yes5 .ensures) (c .is-yes6 .ensures)
+    let args = c .before .before .before .before .before .before .args in
+    let is-yes = c .before .before .before .before .before .is-yes in
+    let is-yes2 = c .before .before .before .before .is-yes2 in
+    let is-yes3 = c .before .before .before .is-yes3 in
+    let is-yes4 = c .before .before .is-yes4 in
+    let is-yes5 = c .before .is-yes5 in
+    state-is (args .t1) _ _ _ _ _ _ (is-yes .ensures) (is-yes2 .ensures) (is-yes3 .ensures) (is-yes4 .ensures) (is-yes5 .ensures) (c .is-yes6 .ensures)
 
 pub state-of-spec : {M : Type 1} → statement M
 state-of-spec =

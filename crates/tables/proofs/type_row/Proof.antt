@@ -2,7 +2,7 @@
 use mathlib.Core.Path.{_∙_, ap}
 use Prim.Native.Nat.{ℕ, _*_, _/_, _%_, _^_}
 use borrow.Author.Needs.{needs}
-use Rattle.tables.proofs.Types.{word-at}
+use Rattle.tables.proofs.Entries.{word-at}
 use Rattle.tables.proofs.type_row.Statement.{statement}
 use Rattle.tables.proofs.type_row.Tie as tie
 

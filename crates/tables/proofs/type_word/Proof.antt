@@ -2,7 +2,7 @@
 use mathlib.Core.Path.{ap, sym}
 use native.Mathlib.Nat.{not-suc-le-zero}
 use Rattle.tables.specs.Tables.{typeWord}
-use Rattle.tables.proofs.Types.{down}
+use Rattle.tables.proofs.Entries.{down}
 use Rattle.tables.proofs.type_word.Statement.{statement}
 use Rattle.tables.proofs.type_word.Tie as tie
 
@@ -72,7 +72,28 @@ returns-16 c = ap typeWord (sym (c .match .keys16))
 
 -- a number below 16 is one of these
 returns-17 : tie.Need-returns-17
-returns-17 c = absurd (not-suc-le-zero (down (down (down (down (down (down (down (down (down (down (down (down (down (down (down (down (c .before .pre) (c .match .rest .1)) (c .match .rest .0 .1)) (c .match .rest .0 .0 .1)) (c .match .rest .0 .0 .0 .1)) (c .match .rest .0 .0 .0 .0 .1)) (c .match .rest .0 .0 .0 .0 .0 .1)) (c .match .rest .0 .0 .0 .0 .0 .0 .1)) (c .match .rest .0 .0 .0 .0 .0 .0 .0 .1)) (c .match .rest .0 .0 .0 .0 .0 .0 .0 .0 .1)) (c .match .rest .0 .0 .0 .0 .0 .0 .0 .0 .0 .1)) (c .match .rest .0 .0 .0 .0 .0 .0 .0 .0 .0 .0 .1)) (c .match .rest .0 .0 .0 .0 .0 .0 .0 .0 .0 .0 .0 .1)) (c .match .rest .0 .0 .0 .0 .0 .0 .0 .0 .0 .0 .0 .0 .1)) (c .match .rest .0 .0 .0 .0 .0 .0 .0 .0 .0 .0 .0 .0 .0 .1)) (c .match .rest .0 .0 .0 .0 .0 .0 .0 .0 .0 .0 .0 .0 .0 .0 .1)) (c .match .rest .0 .0 .0 .0 .0 .0 .0 .0 .0 .0 .0 .0 .0 .0 .0 .1)))
+returns-17 c =
+    let pre = c .before .pre in
+    absurd
+    (not-suc-le-zero
+    (down
+    (down
+    (down
+    (down
+    (down
+    (down
+    (down
+    (down
+    (down
+    (down
+    (down
+    (down
+    (down (down (down (down pre (c .match .rest .1)) (c .match .rest .0 .1)) (c .match .rest .0 .0 .1)) (c .match .rest .0 .0 .0 .1))
+    (c .match .rest .0 .0 .0 .0 .1)) (c .match .rest .0 .0 .0 .0 .0 .1)) (c .match .rest .0 .0 .0 .0 .0 .0 .1))
+    (c .match .rest .0 .0 .0 .0 .0 .0 .0 .1)) (c .match .rest .0 .0 .0 .0 .0 .0 .0 .0 .1)) (c .match .rest .0 .0 .0 .0 .0 .0 .0 .0 .0 .1))
+    (c .match .rest .0 .0 .0 .0 .0 .0 .0 .0 .0 .0 .1)) (c .match .rest .0 .0 .0 .0 .0 .0 .0 .0 .0 .0 .0 .1))
+    (c .match .rest .0 .0 .0 .0 .0 .0 .0 .0 .0 .0 .0 .0 .1)) (c .match .rest .0 .0 .0 .0 .0 .0 .0 .0 .0 .0 .0 .0 .0 .1))
+    (c .match .rest .0 .0 .0 .0 .0 .0 .0 .0 .0 .0 .0 .0 .0 .0 .1)) (c .match .rest .0 .0 .0 .0 .0 .0 .0 .0 .0 .0 .0 .0 .0 .0 .0 .1)))
 
 pub type-word-spec : {M : Type 1} → statement M
 type-word-spec =

@@ -1,3 +1,0 @@
-pub mod Marked
-pub mod Reasons
-pub mod LowPower

@@ -1,0 +1,5 @@
+pub mod Told
+pub mod Fields
+pub mod Packing
+pub mod Choosing
+pub mod Unique

@@ -1,0 +1,4 @@
+pub mod Stripped
+pub mod Storing
+pub mod Coding
+pub mod Unique

@@ -1,0 +1,3 @@
+pub mod InLock
+pub mod Unique
+mod Cases

@@ -1,0 +1,4 @@
+pub mod Example
+pub mod Marked
+pub mod Reasons
+pub mod LowPower

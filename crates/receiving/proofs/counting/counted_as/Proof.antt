@@ -1,9 +1,0 @@
-use mathlib.Core.Path.{refl}
-use Rattle.receiving.proofs.counting.counted_as.Statement.{statement}
-use Rattle.receiving.proofs.counting.counted_as.Tie as tie
-
-returns : tie.Need-returns
-returns c = refl
-
-pub counted-as-spec : {M : Type 1} → statement M
-counted-as-spec = tie.close (tie.spec returns)

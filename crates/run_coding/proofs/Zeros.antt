@@ -1,7 +1,0 @@
--- Many zeros, of which only the number is looked at. Assumes nothing.
-use Prim.Native.Nat.{ℕ}
-use mathlib.Core.Path.{_≡_, sym}
-use lib.ListN.{length, replicate, length-replicate}
-
-pub zeros : (n : ℕ) → n ≡ length {A = ℕ} (replicate n 0)
-zeros n = sym (length-replicate n 0)

@@ -1,0 +1,4 @@
+pub mod Slots
+pub mod Rows
+pub mod Quickly
+pub mod Unique
