@@ -1,10 +1,11 @@
-//! Compares the library with the second program: `compare [--seed N] [--only GROUP] [--soak]`. Each group runs in both editions. The
-//! seed fixes everything; --soak goes on with one seed after another until a difference is found.
-use compare::calls::{Calls, Tally};
+//! Compares the library with the second program: `compare [--seed N] [--only GROUP] [--soak]`. Each group runs in both editions, side by
+//! side. The seed fixes everything; --soak goes on with one seed after another until a difference is found.
+use compare::calls::{Calls, Outcome, Tally};
 use compare::groups::{Group, GROUPS};
 use compare::reference::edition::{Edition, EDITIONS};
 use std::process::ExitCode;
-use std::time::{Instant, SystemTime};
+use std::thread;
+use std::time::{Duration, Instant, SystemTime};
 
 struct Options {
     seed: u64,
@@ -35,13 +36,23 @@ fn options() -> Result<Options, String> {
     Ok(options)
 }
 
-/// Runs a group in an edition and says what it compared, or what differed.
-fn run(group: &Group, edition: Edition, seed: u64, total: &mut Tally) -> bool {
+/// What a group came to in an edition.
+struct Compared {
+    tally: Tally,
+    outcome: Outcome,
+    took: Duration,
+}
+
+fn run(group: &Group, edition: Edition, seed: u64) -> Compared {
     let began = Instant::now();
     let mut calls = Calls::new(edition, seed);
     let outcome = (group.run)(&mut calls);
-    let t = calls.tally;
-    total.add(&t);
+    Compared { tally: calls.tally, outcome, took: began.elapsed() }
+}
+
+/// Says what a group compared in an edition, or what differed.
+fn say(group: &Group, edition: Edition, seed: u64, compared: &Compared) {
+    let t = &compared.tally;
     println!(
         "{:<11} {:>7} {:>9} {:>9} {:>9} {:>9} {:>8} {:>6.1} s  {}",
         group.name,
@@ -51,13 +62,12 @@ fn run(group: &Group, edition: Edition, seed: u64, total: &mut Tally) -> bool {
         t.receives,
         t.received,
         t.refusals,
-        began.elapsed().as_secs_f64(),
+        compared.took.as_secs_f64(),
         group.says
     );
-    if let Err(difference) = &outcome {
+    if let Err(difference) = &compared.outcome {
         println!("DIFFERENT: {difference}\n  again: compare --seed {seed} --only '{}'", group.name);
     }
-    outcome.is_ok()
 }
 
 /// Runs the groups once; the number of those that passed and that failed.
@@ -73,8 +83,13 @@ fn round(options: &Options, seed: u64) -> (usize, usize) {
         if options.only.as_ref().is_some_and(|name| name != group.name) {
             continue;
         }
-        for edition in EDITIONS {
-            if run(group, edition, seed, &mut total) {
+        let both = thread::scope(|scope| {
+            EDITIONS.map(|edition| scope.spawn(move || run(group, edition, seed))).map(|one| one.join().unwrap())
+        });
+        for (edition, compared) in EDITIONS.into_iter().zip(&both) {
+            say(group, edition, seed, compared);
+            total.add(&compared.tally);
+            if compared.outcome.is_ok() {
                 passed += 1;
             } else {
                 failed += 1;
