@@ -156,6 +156,9 @@ fn two_flips_new() {
     assert_eq!(control(&answer), std::array::from_fn(|i| Some(if i == 0 { 0x06 } else { 0x07 })));
     assert_ne!(control(&answer), control(&sent[66]));
     assert_ne!(answer, ERROR);
+    // an error in the old edition, and with one flip in the newer one too
+    assert_eq!(returned_in(Edition::Old, &sent, &[4307, 4308])[66], ERROR);
+    assert_eq!(returned_in(Edition::New, &sent, &[4307])[66], ERROR);
 }
 
 /// A flipped payload bit shows 39 places after it and not 38.

@@ -1,10 +1,10 @@
--- `run_coding::print_bytes` is safe and ends. Assumes nothing.
+-- `run_captures::print_bytes` is safe and ends. Assumes nothing.
 use Prim.Native.Nat.{_≤_, _-_}
 use native.Mathlib.Omega.{arith}
 use lib.ListN.{length}
 use borrow.Author.Needs.{needs}
-use Rattle.run_coding.proofs.print_bytes.Statement.{statement}
-use Rattle.run_coding.proofs.print_bytes.Tie as tie
+use Rattle.run_captures.proofs.print_bytes.Statement.{statement}
+use Rattle.run_captures.proofs.print_bytes.Tie as tie
 
 abbrev Inv-loop : tie.InvT-loop
 Inv-loop bytes i₀ t3 i = i ≤ length bytes
