@@ -11,7 +11,7 @@ use lib.Seq.{take-suc, length-take-le, drop-drop, take-all}
 use lib.Dec.{ltb}
 use borrow.Author.Tests.{lt-ltb, le-ltb, ltb-true, ltb-false}
 use Rattle.records.proofs.Laws.{by-test}
-use Rattle.records.specs.Record.{recordOf}
+use Rattle.record_writing.specs.Writing.{recordOf}
 use Rattle.display.specs.Display.{ascii, hexDigit, hexDigits, hexLine, hexLines, pieces, decimalBy, decimal, numberLine, flag, summaryLines, refusedLine, lineRecords}
 
 -- ---- decimal numbers

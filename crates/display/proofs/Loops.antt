@@ -9,7 +9,7 @@ use native.Mathlib.Nat.{add-sub-cancel-left}
 use lib.ListN.{length, getD, take, drop, set, length-append, length-drop, length-set}
 use lib.Seq.{length-take-le, take-all}
 use borrow.Rule.Slice.PartMut.{putMid, midOf}
-use Rattle.records.specs.Record.{recordOf}
+use Rattle.record_writing.specs.Writing.{recordOf}
 use Rattle.putting.specs.Overlaid.{PutsText}
 use Rattle.putting.proofs.Laws.{overlaid-part, puts-on, puts-length, puts-none, puts-one, puts-two}
 use Rattle.display.specs.Display.{hexDigit, hexDigits, hexLine, hexLines, pieces, decimal, numberLine, flag, summaryLines, refusedLine, lineRecords}

@@ -6,7 +6,7 @@ use mathlib.Core.Bool.{Bool, cond}
 use mathlib.Core.List.{List, [], _∷_, _++_, map, flatten}
 use lib.ListN.{length, take, drop}
 use lib.Dec.{ltb}
-use Rattle.records.specs.Record.{recordOf}
+use Rattle.record_writing.specs.Writing.{recordOf}
 
 -- the codes of a text's characters
 abbrev pub ascii : String → List ℕ

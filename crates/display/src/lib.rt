@@ -5,7 +5,7 @@ ghost use mathlib.Core.List.{_++_};
 ghost use Prim.Native.Nat.{_+_, _*_, _/_, _≤_, _<_};
 ghost use lib.ListN.{length};
 ghost use Rattle.refusals.specs.Number.{numberOf};
-ghost use Rattle.records.specs.Record.{recordOf};
+ghost use Rattle.record_writing.specs.Writing.{recordOf};
 ghost use Rattle.putting.specs.Overlaid.{PutsText};
 ghost use Rattle.display.specs.Display.{ascii, hexDigit, hexDigits, hexLine, hexLines, decimal, flag, summaryLines, refusedLine, inputFailedLine, lineRecords};
 
@@ -129,7 +129,7 @@ fn line_record(body: &[u8], out: &mut [u8], at: usize) -> usize
     requires { ⌜ (length (now body) < 65536) × (at + length (now body) + 4 ≤ length (now out)) ⌝ }
     ensures { λ r. ⌜ PutsText at (recordOf 2 (now (body .entry))) (now (out .entry)) r (now (out .exit)) ⌝ }
 {
-    records::put(2, body, &mut out[at..]);
+    record_writing::put(2, body, &mut out[at..]);
     at + body.len() + 4
 }
 

@@ -4,7 +4,6 @@ use mathlib.Core.Bool.{Bool, true, false, _||_}
 use mathlib.Core.List.{List, _++_}
 use Prim.Native.Nat.{ℕ}
 use lib.ListN.{length, drop, replicate}
-use Rattle.bits.specs.Bits.{bit, number, cut}
 use Rattle.refusals.specs.First.{Check, check, Verdict, accepted, refused, first, byVerdict}
 use Rattle.refusals.proofs.Outcome.{outcome}
 use Rattle.block.specs.Block.{editionOf}
@@ -12,8 +11,9 @@ use Rattle.transmit.specs.Send.{sentLine}
 use Rattle.sending.specs.Answer as Sending
 use Rattle.receiving.specs.Receive.{receivedVectors}
 use Rattle.receiving.specs.Answer as Receiving
-use Rattle.slices.specs.Slices.{oneMoreAfter, tooShort, summaryWith, shortSlice, receiveLength, receiveWords}
-use Rattle.slices.proofs.Demand1.{through}
+use Rattle.summaries.specs.Summaries.{oneMoreAfter, tooShort, summaryWith}
+use Rattle.slices.specs.Slices.{shortSlice, receiveLength, receiveWords}
+use Rattle.summaries.proofs.Demand1.{through}
 use Rattle.holzmotte.specs.Boundary.{sendVerdict, sendWords, sendResult, sendLine, sendSummary, receiveVerdict, receiveResult, receiveVectors, receiveSummary, receiveCounters}
 use Rattle.holzmotte.specs.Demand1.{Demand1OfSendThroughC, Demand1OfReceiveThroughC}
 
@@ -38,11 +38,11 @@ receive-words (refused n p) answer = refl
 
 -- sending
 pub demand-1-of-send-through-c : Demand1OfSendThroughC
-unfolding sendResult sendLine sendSummary sendVerdict Sending.sendRoom cut bit number
+unfolding sendResult sendLine sendSummary sendVerdict Sending.sendRoom
 demand-1-of-send-through-c edition bytes start room summary r room′ summary′ p =
     outcome _ _ _ _
     (through 3 4 short checks (sendWords answer) summary (line ++ drop (length line) room) room
-    refl (λ e. e) r room′ summary′ (p .0) (p .1)
+    (λ e. e) r room′ summary′ (p .0) (p .1)
     (p .2 ∙ ap (λ (ws : List ℕ). summaryWith 3 ws summary) (send-words (first (oneMoreAfter 4 (check 4 short) checks)) answer)))
   where
     checks : List Check
@@ -59,12 +59,12 @@ demand-1-of-send-through-c edition bytes start room summary r room′ summary′
 
 -- receiving
 pub demand-1-of-receive-through-c : Demand1OfReceiveThroughC
-unfolding receiveResult receiveVectors receiveSummary receiveCounters receiveVerdict Receiving.receiveRoom cut bit number
+unfolding receiveResult receiveVectors receiveSummary receiveCounters receiveVerdict Receiving.receiveRoom
 demand-1-of-receive-through-c edition line room summary counters r room′ summary′ counters′ p =
     outcome _ _ _ _
     (fourth (first (oneMoreAfter 2 (check 4 short) checks)) (r, room′, summary′) _ _ counters′ _ counters
     (through receiveLength 2 short checks (receiveWords answer) summary (vectors ++ drop (length vectors) room) room
-    refl own r room′ summary′ (p .0) (p .1)
+    own r room′ summary′ (p .0) (p .1)
     (p .2 ∙ ap (λ (ws : List ℕ). summaryWith receiveLength ws summary) (receive-words (first (oneMoreAfter 2 (check 4 short) checks)) answer)))
     (p .3))
   where

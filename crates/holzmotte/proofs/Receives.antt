@@ -1,5 +1,5 @@
 -- Receiving through C, case by case: a slice too short, an answer, a refusal. Assumes nothing.
-use Prim.Native.Nat.{ℕ, _+_, _*_, _/_, _≤_}
+use Prim.Native.Nat.{ℕ, _+_, _*_, _/_, _^_, _≤_, _<_}
 use mathlib.Core.Path.{_≡_, refl, sym, ap, ap₂, _∙_}
 use mathlib.Core.Bool.{Bool, true, false, _||_, true≢false}
 use mathlib.Core.List.{List, [], _∷_, _++_}
@@ -16,10 +16,11 @@ use Rattle.receiving.specs.declared.Summary.{Summary}
 use Rattle.receiving.specs.declared.Received.{Received}
 use Rattle.counters.specs.Counters.{countersAfter}
 use Rattle.counters.specs.declared.Counters.{Counters}
-use Rattle.slices.specs.Slices.{resultOf, wordBytes, tooShort, summaryWith, countersIn, countersWith, receiveLength, shortSlice, receiveWords}
+use Rattle.summaries.specs.Summaries.{resultOf, wordBytes, tooShort, summaryWith}
+use Rattle.slices.specs.Slices.{countersIn, countersWith, receiveLength, shortSlice, receiveWords}
 use Rattle.holzmotte.specs.Boundary.{receiveVerdict, receiveResult, receiveVectors, receiveSummary, receiveCounters, ReceivesThroughC}
-use Rattle.slices.proofs.Laws.{first-after, place-zero, summary-long}
-use Rattle.slices.proofs.Applied.{shortOf, never, short-result}
+use Rattle.summaries.proofs.Laws.{first-after, place-zero, summary-long}
+use Rattle.summaries.proofs.Applied.{shortOf, never, short-result}
 
 -- what a match finds of an answer has its values
 pub as-found : (w : ReceiveAnswer) {x y : Received} → x ≡ y → Answer.answerOf x ≡ w → Answer.answerOf y ≡ w
@@ -64,7 +65,7 @@ module _ (edition : ℕ) where
       ap shortOf (ap verdictReceived e ∙ verdict-told line 0) ∙ sym (short-is (length line) room summary counters l)
 
   -- a refusal's place fits a result
-  pub small : (line : List ℕ) (room number place : ℕ) → Answer.refused number place ≡ receiveAnswer edition line room → place ≤ 1000000
+  pub small : (line : List ℕ) (room number place : ℕ) → Answer.refused number place ≡ receiveAnswer edition line room → place < 2 ^ 56
   unfolding receiveChecks
   small line room number place e =
       let z : place ≡ 0 = place-zero _ (refl, (refl, (refl, tt))) number place (sym (ap verdictReceived e ∙ verdict-told line room)) in

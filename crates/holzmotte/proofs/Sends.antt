@@ -1,5 +1,5 @@
 -- Sending through C, case by case. Assumes nothing.
-use Prim.Native.Nat.{ℕ, _*_, _/_, _%_, _≤_, _<_}
+use Prim.Native.Nat.{ℕ, _*_, _/_, _%_, _^_, _≤_, _<_}
 use mathlib.Core.Path.{_≡_, refl, sym, ap, _∙_}
 use mathlib.Core.Bool.{Bool, true, false, not}
 use mathlib.Core.List.{List, [], _∷_, _++_}
@@ -13,10 +13,10 @@ use Rattle.block.specs.Block.{highControl}
 use Rattle.sending.specs.Answer.{SendAnswer, sendChecks, sendAnswer, sendRoom}
 use Rattle.sending.specs.Answer as Answer
 use Rattle.sending.proofs.Verdicts.{verdictOfSend, verdict-told, place-small}
-use Rattle.slices.specs.Slices.{resultOf, oneMoreAfter, wordBytes, tooShort}
+use Rattle.summaries.specs.Summaries.{resultOf, oneMoreAfter, wordBytes, tooShort}
 use Rattle.holzmotte.specs.Boundary.{sendVerdict, sendWords, sendResult, sendLine, sendSummary, SendsThroughC}
-use Rattle.slices.proofs.Laws.{long-first, kept, summary-short, summary-long}
-use Rattle.slices.proofs.Applied.{shortOf, never, short-result}
+use Rattle.summaries.proofs.Laws.{long-first, kept, summary-short, summary-long}
+use Rattle.summaries.proofs.Applied.{shortOf, never, short-result}
 
 -- no room, where none is needed or where some is: a control byte is looked at where some is
 no-room : (b e : Bool) (h : ℕ) → (b ≡ false → e ≡ false) → shortOf (first (check 4 b ∷ checkAt 5 h e ∷ [])) ≡ 4
@@ -56,8 +56,9 @@ module _ (edition : ℕ) where
       ap shortOf (ap verdictOfSend e ∙ verdict-told edition vectors start 0) ∙ sym (short-is vectors start room summary l)
 
   -- a refusal's place fits a result
-  pub small : (vectors : List ℕ) (start room number place : ℕ) → Answer.refused number place ≡ sendAnswer edition vectors start room → place ≤ 1000000
-  small vectors start room number place e = place-small edition vectors start room number place (sym (ap verdictOfSend e ∙ verdict-told edition vectors start room))
+  pub small : (vectors : List ℕ) (start room number place : ℕ) → Answer.refused number place ≡ sendAnswer edition vectors start room → place < 2 ^ 56
+  small vectors start room number place e =
+      omega (arith, place-small edition vectors start room number place (sym (ap verdictOfSend e ∙ verdict-told edition vectors start room)))
 
   -- with a summary too short
   pub shortly : (vectors room summary : List ℕ) (start result : ℕ) → length summary < 8 * 3

@@ -1,5 +1,5 @@
 -- The checks of a call through C: a state too short, a summary or counters too short, and else those of the call itself. Assumes nothing.
-use Prim.Native.Nat.{ℕ, _+_, _*_, _≤_, _<_}
+use Prim.Native.Nat.{ℕ, _+_, _*_, _^_, _≤_, _<_}
 use mathlib.Core.Path.{_≡_, refl, sym, ap, ap₂, _∙_}
 use mathlib.Core.Bool.{Bool, true, false}
 use mathlib.Core.List.{List, [], _∷_, _++_}
@@ -9,9 +9,10 @@ use lib.Dec.{ltb, lit<}
 use borrow.Author.Tests.{lt-ltb, le-ltb, ltb-false}
 use Rattle.refusals.specs.First.{Check, check, Verdict, accepted, refused, first, byVerdict}
 use Rattle.refusals.proofs.Laws.{passed}
-use Rattle.slices.specs.Slices.{resultOf, tooShort, shortSlice, oneMoreAfter}
-use Rattle.slices.proofs.Laws.{first-after, skipped, place-zero, Numbered, refusal-above, result-zero}
-use Rattle.slices.proofs.Applied.{cut-off, never}
+use Rattle.summaries.specs.Summaries.{resultOf, tooShort, oneMoreAfter}
+use Rattle.slices.specs.Slices.{shortSlice}
+use Rattle.summaries.proofs.Laws.{first-after, skipped, place-zero, Numbered, refusal-above, result-zero}
+use Rattle.summaries.proofs.Applied.{cut-off, never}
 use Rattle.kept_state.specs.declared.State.{State}
 use Rattle.judging.specs.Judging.{roomFor, burstChecks, burstVerdict}
 use Rattle.bursts.specs.Burst.{stateFresh, begun, beginAnswer}
@@ -35,7 +36,7 @@ module _ (edition : ℕ) (state : List ℕ) where
   goes false s t e = (refl, cc)
 
   -- refused
-  pub begin-place : (n p : ℕ) → Burst.refused n p ≡ beginAnswer edition → p ≤ 1000000
+  pub begin-place : (n p : ℕ) → Burst.refused n p ≡ beginAnswer edition → p < 2 ^ 56
   unfolding beginAnswer
   begin-place n p e = let z = sides (ltb 1 edition) (stateFresh edition) n p e in omega (arith, z .2)
 

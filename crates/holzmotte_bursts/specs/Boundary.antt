@@ -8,7 +8,8 @@ use lib.ListN.{length, replicate}
 use Rattle.refusals.specs.First.{check, Verdict, first, byVerdict}
 use Rattle.block.specs.Block.{editionCheck}
 use Rattle.counters.specs.Counters.{updated}
-use Rattle.slices.specs.Slices.{resultOf, oneMoreAfter, tooShort, summaryWith, countersIn, countersWith, receiveLength, shortSlice, receiveWords}
+use Rattle.summaries.specs.Summaries.{resultOf, oneMoreAfter, tooShort, summaryWith}
+use Rattle.slices.specs.Slices.{countersIn, countersWith, receiveLength, shortSlice, receiveWords}
 use Rattle.judging.specs.Judging.{burstChecks}
 use Rattle.bursts.specs.Burst.{stateFresh, Called, burstCall, closeCall}
 use Rattle.stored.specs.Stored.{stateLength, stateIn, storedIn}

@@ -28,7 +28,7 @@ most-came n (Came.End k) i = omega (arith, i)
 most-came n Came.Failed i = omega arith
 
 -- The input ended in the head, or a read failed there.
-pub no-head : (buffer : List ℕ) (n : ℕ) (got : Got) → InAll n got → n ≤ 4 → length buffer ≡ 4096 → OneOf (1 ∷ 2 ∷ []) (tagOf the-type got) → WindowIn buffer got
+pub no-head : (buffer : List ℕ) (n : ℕ) (got : Got) → InAll n got → n ≤ 4 → length buffer ≡ 65476 → OneOf (1 ∷ 2 ∷ []) (tagOf the-type got) → WindowIn buffer got
 unfolding InAll WindowIn
 no-head buffer n (Came.Bytes k) i h l o = absurd (miss (1 ∷ 2 ∷ []) 0 tt o)
 no-head buffer n (Came.End k) i h l o = (omega (arith, i), omega (arith, i))
@@ -36,7 +36,7 @@ no-head buffer n Came.Failed i h l o = tt
 
 -- The head, and the body behind it, read to a buffer of 4,096 bytes.
 module _ (first last : List ℕ) (h more at n : ℕ) (head : h ≡ 4) (asked : more ≡ wantedOf bodyLimit (take h first)) (small : more ≤ bodyLimit)
-    (kept : OnlyAt at n first last) (apart : h ≤ at) (room : length last ≡ 4096) where
+    (kept : OnlyAt at n first last) (apart : h ≤ at) (room : length last ≡ 65476) where
   -- The head in the window is the one that was read.
   same-head : (b : ℕ) → wantedOf bodyLimit (take 4 (take (h + b) last)) ≡ more
   unfolding OnlyAt

@@ -64,7 +64,7 @@ fn read_at(fd: i32, buf: &mut [u8], at: usize, n: usize) -> Got
 
 // Reads the window of one record: the head, then as much of a body as the head asks for.
 fn read_window(fd: i32, window: &mut [u8]) -> Got
-    requires { ⌜ length (now window) ≡ 4096 ⌝ }
+    requires { ⌜ length (now window) ≡ 65476 ⌝ }
     ensures { λ r. ⌜ WindowIn (now (window .exit)) r ⌝ }
 {
     let head = read_at(fd, window, 0, 4);
@@ -80,7 +80,7 @@ fn read_window(fd: i32, window: &mut [u8]) -> Got
 pub fn gathered(fd: i32, kind: usize, store: &mut [u8]) -> Step
     ensures { λ r. ⌜ Gathers kind (now (store .entry)) r (now (store .exit)) ⌝ }
 {
-    let mut window = [0u8; 4096];
+    let mut window = [0u8; 65476];
     let mut used = 0;
     let mut turns = u64::MAX;
     while turns > 0 {

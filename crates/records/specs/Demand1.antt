@@ -1,20 +1,13 @@
--- Demand 1 of writing a record and of reading one.
+-- Demand 1 of reading a record.
 use Prim.Native.Nat.{ℕ, _+_, _≤_, _<_}
 use mathlib.Core.Path.{_≡_}
 use mathlib.Core.List.{List}
 use mathlib.Core.Logic.{_⊎_}
 use lib.ListN.{length}
 use Rattle.refusals.specs.First.{Check}
-use Rattle.refusals.specs.Outcome.{Outcome, OutcomeInRoom}
-use Rattle.records.specs.Record.{bodyLimit, twoAt, readChecks, whole, end, refused, answerOf, Finds, writeChecks, recordOf, wrote, unwritten, writeAnswerOf, Writes}
+use Rattle.refusals.specs.Outcome.{Outcome}
+use Rattle.records.specs.Record.{bodyLimit, twoAt, readChecks, whole, end, refused, answerOf, Finds}
 use Rattle.records.specs.declared.Found.{Found}
-use Rattle.records.specs.declared.Written.{Written}
-
--- writing
-abbrev pub Demand1OfWrite : Type 0
-Demand1OfWrite =
-    (kind : ℕ) (body room : List ℕ) (r : Written) (room′ : List ℕ) → Writes kind body room r room′
-    → OutcomeInRoom (writeChecks bodyLimit kind body (length room)) (writeAnswerOf r) room′ (wrote (length body + 4)) (recordOf kind body) room unwritten
 
 -- What a call came to that looks at a place of a file: a place at or past its end is a plain end of records, and no refusal is looked at.
 abbrev pub OutcomeAt : {A : Type 0} (file : List ℕ) (place : ℕ) (ending : A) (checks : List Check) (came success : A) (refusal : (number at : ℕ) → A) → Type 0

@@ -3,7 +3,7 @@ use mathlib.Core.Path.{_≡_, refl}
 use mathlib.Core.List.{[], _∷_}
 use lib.ListN.{replicate}
 use Rattle.refusals.specs.First.{first}
-use Rattle.records.specs.Record.{bodyLimit, readAt, readChecks, whole, end, refused, writtenRoom, writeChecks}
+use Rattle.records.specs.Record.{bodyLimit, oldBodyLimit, readAt, readChecks, whole, end, refused}
 
 nine : readAt bodyLimit (9 ∷ 0 ∷ 2 ∷ 0 ∷ replicate 9 0) 0 ≡ whole 2 4 9 13
 unfolding readAt readChecks first
@@ -18,7 +18,7 @@ unfolding readAt readChecks first
 cut = refl
 
 -- the length comes before the kind, and the kind before the cut body
-long : readAt bodyLimit (253 ∷ 15 ∷ 3 ∷ 0 ∷ []) 0 ≡ refused 7 0
+long : readAt bodyLimit (193 ∷ 255 ∷ 3 ∷ 0 ∷ []) 0 ≡ refused 7 0
 unfolding readAt readChecks first
 long = refl
 
@@ -26,10 +26,11 @@ kindFirst : readAt bodyLimit (9 ∷ 9 ∷ 0 ∷ 3 ∷ 0 ∷ []) 1 ≡ refused 8 
 unfolding readAt readChecks first
 kindFirst = refl
 
-written : writtenRoom bodyLimit 2 (7 ∷ 8 ∷ []) (replicate 8 255) ≡ 2 ∷ 0 ∷ 2 ∷ 0 ∷ 7 ∷ 8 ∷ 255 ∷ 255 ∷ []
-unfolding writtenRoom writeChecks first
-written = refl
-
-big : readAt bodyLimit (252 ∷ 15 ∷ 2 ∷ 0 ∷ replicate 4092 1) 0 ≡ whole 2 4 4092 4096
+-- a body of 4,093 bytes, as a new reader and as an old one finds it
+longer : readAt bodyLimit (253 ∷ 15 ∷ 2 ∷ 0 ∷ replicate 4093 1) 0 ≡ whole 2 4 4093 4097
 unfolding readAt readChecks first
-big = refl
+longer = refl
+
+longerForOld : readAt oldBodyLimit (253 ∷ 15 ∷ 2 ∷ 0 ∷ replicate 4093 1) 0 ≡ refused 7 0
+unfolding readAt readChecks first
+longerForOld = refl

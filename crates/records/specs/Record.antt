@@ -1,21 +1,23 @@
--- Document 01, 'Capture records' and the rows of 'Refusal numbers' on reading and writing a record.
--- The body limit is an argument throughout: `bodyLimit` is the one in force.
-use Prim.Native.Nat.{ℕ, _+_, _*_, _-_, _/_, _%_}
+-- Document 01, 'Capture records' and the row of 'Refusal numbers' on reading a record; document 02, 7/13. The body limit is an argument of
+-- what is read and written: `bodyLimit` is the one in force, and an old reader is one with the other.
+use Prim.Native.Nat.{ℕ, _+_, _*_, _-_, _%_}
 use mathlib.Core.Path.{_≡_}
-use mathlib.Core.List.{List, [], _∷_, _++_}
+use mathlib.Core.List.{List, [], _∷_}
 use mathlib.Core.Bool.{Bool, cond, not, _&&_, _||_}
 use lib.ListN.{length, getD, take, drop}
 use lib.Dec.{ltb, leb, eqb}
 use Rattle.refusals.specs.Number.{numberOf}
-use Rattle.refusals.specs.First.{Check, check, checkAt, first, byVerdict}
+use Rattle.refusals.specs.First.{Check, checkAt, first, byVerdict}
 use Rattle.records.specs.declared.Found.{Found}
 use Rattle.records.specs.declared.Found.the-variants.{Whole, End, Refused}
-use Rattle.records.specs.declared.Written.{Written}
-use Rattle.records.specs.declared.Written.the-variants as Case
 
--- "body of at most 4,092 bytes"
+-- 7/13: "Raise the body limit to 65,472 bytes"
 abbrev pub bodyLimit : ℕ
-bodyLimit = 4092
+bodyLimit = 65472
+
+-- document 01: "body of at most 4,092 bytes"
+abbrev pub oldBodyLimit : ℕ
+oldBodyLimit = 4092
 
 -- "2 bytes, little-endian": the number at place i
 abbrev pub twoAt : (s : List ℕ) (i : ℕ) → ℕ
@@ -70,40 +72,3 @@ bodyOf s start len = cond (leb start (length s) && leb len (length s - start)) (
 -- how many bytes belong to a record after these bytes of its head: none where the head is cut or its length is above the limit
 unfoldable pub wantedOf : (limit : ℕ) (head : List ℕ) → ℕ
 wantedOf limit head = cond (ltb (length head) 4) 0 (cond (ltb limit (twoAt head 0)) 0 (twoAt head 0))
-
--- "writing one 7, 8, 2 (kind 1), 4, with place 0", into a room of so many bytes
-unfoldable pub writeChecks : (limit kind : ℕ) (body : List ℕ) (room : ℕ) → List Check
-writeChecks limit kind body room =
-    check 7 (ltb limit (length body))
-    ∷ check 8 (unknownKind kind)
-    ∷ check 2 (notGroups kind (length body))
-    ∷ check 4 (ltb room (length body + 4))
-    ∷ []
-
--- "Body length (2 bytes, little-endian), kind (2 bytes, little-endian ..), body"
-abbrev pub recordOf : (kind : ℕ) (body : List ℕ) → List ℕ
-recordOf kind body = (length body % 256) ∷ (length body / 256) ∷ (kind % 256) ∷ (kind / 256) ∷ body
-
--- what writing answers: how many bytes were written; or a refusal (number, place)
-pub data WriteAnswer : Type 0 where
-  wrote : (bytes : ℕ) → WriteAnswer
-  unwritten : (number place : ℕ) → WriteAnswer
-
-unfoldable pub writeAnswer : (limit kind : ℕ) (body room : List ℕ) → WriteAnswer
-writeAnswer limit kind body room = byVerdict (first (writeChecks limit kind body (length room))) (wrote (length body + 4)) unwritten
-
--- "Success writes exactly the stated bytes from the start of the lent room; the rest is unchanged"
-unfoldable pub writtenRoom : (limit kind : ℕ) (body room : List ℕ) → List ℕ
-writtenRoom limit kind body room =
-    byVerdict (first (writeChecks limit kind body (length room)))
-    (recordOf kind body ++ drop (length body + 4) room)
-    (λ number place. room)
-
--- the document's number and values for each case of the writer's answer
-abbrev pub writeAnswerOf : Written → WriteAnswer
-writeAnswerOf (Case.Done n) = wrote n
-writeAnswerOf (Case.Refused why) = unwritten (numberOf why) 0
-
--- the promise: `write` was lent `room` for the record, answered `r` and left `room′`
-abbrev pub Writes : (kind : ℕ) (body room : List ℕ) (r : Written) (room′ : List ℕ) → Type 0
-Writes kind body room r room′ = (writeAnswerOf r ≡ writeAnswer bodyLimit kind body room) × (room′ ≡ writtenRoom bodyLimit kind body room)

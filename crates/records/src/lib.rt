@@ -1,13 +1,12 @@
-// Capture records, document 01: reading one at a place, its body as a part of the input, and writing one into lent room.
+// Capture records, document 01 and document 02, 7/13: reading one at a place, and its body as a part of the input.
 use refusals::Refusal;
 ghost use mathlib.Core.Path.{_≡_};
-ghost use Prim.Native.Nat.{_+_, _*_, _<_, _≤_};
-ghost use mathlib.Core.List.{_++_};
-ghost use lib.ListN.{length, drop};
-ghost use Rattle.records.specs.Record.{bodyLimit, twoAt, unknownKind, notGroups, Finds, bodyOf, wantedOf, recordOf, Writes};
+ghost use Prim.Native.Nat.{_+_, _<_, _≤_};
+ghost use lib.ListN.{length};
+ghost use Rattle.records.specs.Record.{bodyLimit, twoAt, unknownKind, notGroups, Finds, bodyOf, wantedOf};
 
-// The most bytes of a body.
-pub const LIMIT: usize = 4092;
+// The most bytes of a body that is read.
+pub const LIMIT: usize = 65472;
 
 // What reading at a place finds.
 pub enum Found {
@@ -22,14 +21,6 @@ pub enum Found {
     End,
     // The refusal and the place of the head.
     Refused(Refusal, usize),
-}
-
-// What writing a record answers.
-pub enum Written {
-    // So many bytes were written.
-    Done(usize),
-    // Nothing was written. The place is 0.
-    Refused(Refusal),
 }
 
 // A byte as a number.
@@ -49,7 +40,7 @@ fn two(s: &[u8], i: usize) -> usize
 }
 
 // Whether no record has this kind.
-fn unknown_kind(kind: usize) -> bool
+pub fn unknown_kind(kind: usize) -> bool
     ensures { λ r. ⌜ r ≡ unknownKind kind ⌝ }
 {
     if kind == 1 {
@@ -62,7 +53,7 @@ fn unknown_kind(kind: usize) -> bool
 }
 
 // Whether a vector record's body is not whole groups of four vectors.
-fn not_groups(kind: usize, len: usize) -> bool
+pub fn not_groups(kind: usize, len: usize) -> bool
     ensures { λ r. ⌜ r ≡ notGroups kind len ⌝ }
 {
     kind == 1 && len % 40 != 0
@@ -129,41 +120,4 @@ pub fn body(s: &[u8], start: usize, len: usize) -> &[u8]
     } else {
         &s[..0]
     }
-}
-
-// Writes the head and the body at the start of a room that holds them.
-pub fn put(kind: usize, body: &[u8], room: &mut [u8])
-    requires { ⌜ (kind < 65536) × (length (now body) < 65536) × (length (now body) + 4 ≤ length (now room)) ⌝ }
-    ensures { λ _. ⌜ now (room .exit) ≡ recordOf kind (now (body .entry)) ++ drop (length (now (body .entry)) + 4) (now (room .entry)) ⌝ }
-{
-    let n = body.len();
-    let head = [
-        (n % 256) as u8,
-        (n / 256) as u8,
-        (kind % 256) as u8,
-        (kind / 256) as u8,
-    ];
-    bytes::copy(&head, room);
-    bytes::copy(body, &mut room[4..]);
-}
-
-// Writes a record at the start of the room.
-pub fn write(kind: usize, body: &[u8], room: &mut [u8]) -> Written
-    ensures { λ r. ⌜ Writes kind (now (body .entry)) (now (room .entry)) r (now (room .exit)) ⌝ }
-{
-    let n = body.len();
-    if LIMIT < n {
-        return Written::Refused(Refusal::LongBody);
-    }
-    if unknown_kind(kind) {
-        return Written::Refused(Refusal::RecordKind);
-    }
-    if not_groups(kind, n) {
-        return Written::Refused(Refusal::NotGroups);
-    }
-    if room.len() < n + 4 {
-        return Written::Refused(Refusal::Room);
-    }
-    put(kind, body, room);
-    Written::Done(n + 4)
 }

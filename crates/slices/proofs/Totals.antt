@@ -11,8 +11,9 @@ use Rattle.receiving.specs.declared.Handed.{Handed}
 use Rattle.counters.specs.Counters.{becomes, updated}
 use Rattle.counters.specs.declared.Counters.{Counters}
 use Rattle.counters.proofs.Laws.{updated-twice}
-use Rattle.slices.specs.Slices.{wordBytes, wordAt, countersIn, counterWords, countersWith}
-use Rattle.slices.proofs.Laws.{length-words, word-back}
+use Rattle.summaries.specs.Summaries.{wordBytes, wordAt}
+use Rattle.slices.specs.Slices.{countersIn, counterWords, countersWith}
+use Rattle.summaries.proofs.Laws.{length-words, word-back}
 
 module _ (c : Counters) (n : Counts) (h : Handed) (bytes : List ℕ) where
   -- a counter has 32 bits

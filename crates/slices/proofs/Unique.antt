@@ -1,28 +1,18 @@
 -- Any two answers that meet a public function's promise are equal. Assumes nothing.
-use Prim.Native.Nat.{ℕ, _+_, _*_}
+use Prim.Native.Nat.{ℕ}
 use mathlib.Core.Bool.{Bool}
 use mathlib.Core.Path.{_≡_, sym, _∙_}
 use mathlib.Core.List.{List, _++_}
-use lib.ListN.{length, drop, replicate}
-use Rattle.refusals.specs.Number.{numberOf}
-use Rattle.refusals.specs.declared.Refusal.{Refusal}
+use lib.ListN.{drop, replicate}
 use Rattle.receiving.specs.Answer.{received}
 use Rattle.receiving.specs.declared.Summary.{Summary}
 use Rattle.counters.specs.declared.Counters.{Counters}
-use Rattle.slices.specs.Slices.{flagWord, wordBytes, summaryWith, shortSlice, countersIn, countersWith, receiveLength, receiveWords}
+use Rattle.summaries.specs.Summaries.{wordBytes, summaryWith}
+use Rattle.slices.specs.Slices.{shortSlice, countersIn, countersWith, receiveLength, receiveWords}
 
 -- two that equal a third
 one {ℓ} : {A : Type ℓ} (x r r′ : A) → r ≡ x → r′ ≡ x → r ≡ r′
 one x r r′ p q = p ∙ sym q
-
-pub refusal-unique : (why : Refusal) (place r r′ : ℕ) → r ≡ numberOf why + 256 * place → r′ ≡ numberOf why + 256 * place → r ≡ r′
-refusal-unique why place r r′ p q = one _ r r′ p q
-
-pub put-words-unique : (summary words r r′ : List ℕ) → r ≡ wordBytes 8 words ++ drop (8 * length words) summary → r′ ≡ wordBytes 8 words ++ drop (8 * length words) summary → r ≡ r′
-put-words-unique summary words r r′ p q = one _ r r′ p q
-
-pub flag-unique : (b : Bool) (r r′ : ℕ) → r ≡ flagWord b → r′ ≡ flagWord b → r ≡ r′
-flag-unique b r r′ p q = one _ r r′ p q
 
 pub load-counters-unique : (bytes : List ℕ) (r r′ : Counters) → r ≡ countersIn bytes → r′ ≡ countersIn bytes → r ≡ r′
 load-counters-unique bytes r r′ p q = one _ r r′ p q

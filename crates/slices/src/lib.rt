@@ -1,45 +1,17 @@
-// What C lends beside lines and vectors: a summary and the counters, as words in byte slices; and what it gets back.
+// What C lends to receiving beside a line and room for vectors: a summary and the counters, as words in byte slices.
 use counters::Counters;
 use line::load_half;
-use line::store;
 use receiving::Summary;
-use refusals::Refusal;
-use refusals::number;
+use summaries::flag;
+use summaries::put_words;
 ghost use mathlib.Core.Path.{_≡_};
 ghost use mathlib.Core.List.{_++_};
-ghost use Prim.Native.Nat.{_+_, _*_, _≤_};
+ghost use Prim.Native.Nat.{_≤_};
 ghost use lib.ListN.{length, drop, replicate};
 ghost use Rattle.bits.specs.Bits.{bit, cut};
-ghost use Rattle.refusals.specs.Number.{numberOf};
 ghost use Rattle.receiving.specs.Answer.{received};
-ghost use Rattle.slices.specs.Slices.{flagWord, wordBytes, summaryWith, shortSlice, countersIn, countersWith, receiveLength, receiveWords};
-
-// A refusal as a result.
-pub fn refusal(why: Refusal, place: usize) -> u64
-    requires { ⌜ place ≤ 1000000 ⌝ }
-    ensures { λ r. ⌜ r ≡ numberOf why + 256 * place ⌝ }
-{
-    number(why) + 256 * (place as u64)
-}
-
-// Words at the start of a summary.
-pub fn put_words(summary: &mut [u8], words: &[u64])
-    requires { ⌜ 8 * length (now words) ≤ length (now summary) ⌝ }
-    ensures { λ _. ⌜ now (summary .exit) ≡ wordBytes 8 (now (words .entry)) ++ drop (8 * length (now (words .entry))) (now (summary .entry)) ⌝ }
-{
-    let mut i = 0;
-    while i < words.len() {
-        store(summary, 8 * i, words[i]);
-        i += 1;
-    }
-}
-
-// 1 for true, 0 for false.
-pub fn flag(b: bool) -> u64
-    ensures { λ r. ⌜ r ≡ flagWord b ⌝ }
-{
-    if b { 1 } else { 0 }
-}
+ghost use Rattle.summaries.specs.Summaries.{wordBytes, summaryWith};
+ghost use Rattle.slices.specs.Slices.{shortSlice, countersIn, countersWith, receiveLength, receiveWords};
 
 // ---- the counters
 

@@ -8,7 +8,7 @@ use Rattle.input.proofs.gathered.Statement.{statement}
 use Rattle.input.proofs.gathered.Tie as tie
 
 abbrev Inv-loop : tie.InvT-loop
-Inv-loop fd kind store₀ window₀ used₀ turns₀ store window used turns = (length window ≡ 4096) × SoFar kind store₀ store used turns
+Inv-loop fd kind store₀ window₀ used₀ turns₀ store window used turns = (length window ≡ 65476) × SoFar kind store₀ store used turns
 
 abbrev μ-loop : tie.MeasureT-loop
 μ-loop fd kind store₀ window₀ used₀ turns₀ store window used turns = turns

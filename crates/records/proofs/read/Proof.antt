@@ -11,7 +11,7 @@ use native.Mathlib.Omega.{arith}
 use borrow.Author.Needs.{needs}
 use borrow.Author.Tests.{le-ltb, lt-ltb, le-leb, lt-leb}
 use Rattle.refusals.specs.First.{first}
-use Rattle.records.specs.Record.{twoAt, unknownKind, notGroups, readChecks, readAt}
+use Rattle.records.specs.Record.{bodyLimit, twoAt, unknownKind, notGroups, readChecks, readAt}
 use Rattle.records.proofs.read.Statement.{statement}
 use Rattle.records.proofs.read.Tie as tie
 
@@ -48,13 +48,13 @@ N a = twoAt (S a) (At a)
 abbrev K : tie.Start → ℕ
 K a = twoAt (S a) (At a + 2)
 
-left3 : (c : tie.Else3) → ltb 4092 (N (c .before .before .before .before .before)) ≡ false
-left3 c = le-ltb 4092 (N (c .before .before .before .before .before)) (omega arith)
+left3 : (c : tie.Else3) → ltb bodyLimit (N (c .before .before .before .before .before)) ≡ false
+left3 c = le-ltb bodyLimit (N (c .before .before .before .before .before)) (omega arith)
 
 returns-3 : tie.Need-returns-3
 unfolding readAt readChecks first
 returns-3 c =
-    simp (left1 (c .before .before .before), left2 (c .before .before), lt-ltb 4092 (N (c .before .before .before .before .before)) (omega arith))
+    simp (left1 (c .before .before .before), left2 (c .before .before), lt-ltb bodyLimit (N (c .before .before .before .before .before)) (omega arith))
 
 add-two : tie.Need-add-two
 add-two c = search needs

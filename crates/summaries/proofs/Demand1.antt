@@ -7,9 +7,9 @@ use lib.ListN.{length, drop, replicate}
 use borrow.Author.Tests.{ltb-false}
 use Rattle.refusals.specs.First.{Check, check, Verdict, accepted, refused, first, byVerdict}
 use Rattle.refusals.proofs.Laws.{passed}
-use Rattle.slices.specs.Slices.{resultOf, oneMoreAfter, wordBytes, tooShort, summaryWith}
-use Rattle.slices.specs.Demand1.{zeroed}
-use Rattle.slices.proofs.Laws.{first-after, summary-long}
+use Rattle.summaries.specs.Summaries.{resultOf, oneMoreAfter, wordBytes, tooShort, summaryWith}
+use Rattle.summaries.specs.Demand1.{zeroed}
+use Rattle.summaries.proofs.Laws.{first-after, summary-long, zero-words}
 
 -- ---- one more row in a list of refusals
 
@@ -27,7 +27,7 @@ all-pass k false cs e = (refl, sym (first-after k (check 4 false) cs refl) ∙ e
 -- ---- a call of n summary words and other lent slices, whose checks are cs and, after the first k of them, one for short slices
 
 module _ {A : Type 0} (n k : ℕ) (short : Bool) (cs : List Check) (words summary : List ℕ) (written before : A)
-    (none : wordBytes 8 (replicate n 0) ≡ replicate (8 * n) 0) (own : short ≡ false → tooShort 8 n (length summary) ≡ false)
+    (own : short ≡ false → tooShort 8 n (length summary) ≡ false)
     (r : ℕ) (rest′ : A) (summary′ : List ℕ) where
   -- all its checks
   abbrev pub allChecks : List Check
@@ -54,4 +54,4 @@ module _ {A : Type 0} (n k : ℕ) (short : Bool) (cs : List Check) (words summar
             (c ∙ summary-long n words summary (ltb-false (length summary) (8 * n) (own (p .0)))) i,
           )
       go (refused m q) e a b c =
-          λ i. (a i, b i, (c ∙ ap (λ (z : List ℕ). cond (tooShort 8 n (length summary)) summary (z ++ drop (8 * n) summary)) none) i)
+          λ i. (a i, b i, (c ∙ ap (λ (z : List ℕ). cond (tooShort 8 n (length summary)) summary (z ++ drop (8 * n) summary)) (zero-words n)) i)

@@ -8,8 +8,8 @@ use lib.ListN.{length, take, drop}
 use lib.Seq.{take-length, drop-length, drop-drop}
 use denote.Ref.{now}
 use borrow.Rule.Slice.PartMut.{putMid}
-use Rattle.records.proofs.put.Statement.{statement}
-use Rattle.records.proofs.put.Tie as tie
+use Rattle.record_writing.proofs.put.Statement.{statement}
+use Rattle.record_writing.proofs.put.Tie as tie
 
 cast-t7 : tie.Need-cast-t7
 cast-t7 c = search needs

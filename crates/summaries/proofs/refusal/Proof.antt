@@ -1,7 +1,7 @@
 use native.Mathlib.Omega.{arith}
 use borrow.Author.Needs.{needs}
-use Rattle.slices.proofs.refusal.Statement.{statement}
-use Rattle.slices.proofs.refusal.Tie as tie
+use Rattle.summaries.proofs.refusal.Statement.{statement}
+use Rattle.summaries.proofs.refusal.Tie as tie
 
 number-requires : tie.Need-number-requires
 number-requires c κs = search needs

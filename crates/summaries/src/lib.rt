@@ -1,0 +1,37 @@
+// What every call through C answers, and the words of a lent summary.
+use line::store;
+use refusals::Refusal;
+use refusals::number;
+ghost use mathlib.Core.Path.{_≡_};
+ghost use mathlib.Core.List.{_++_};
+ghost use Prim.Native.Nat.{_+_, _*_, _^_, _≤_, _<_};
+ghost use lib.ListN.{length, drop};
+ghost use Rattle.refusals.specs.Number.{numberOf};
+ghost use Rattle.summaries.specs.Summaries.{flagWord, wordBytes};
+
+// A refusal as a result.
+pub fn refusal(why: Refusal, place: usize) -> u64
+    requires { ⌜ place < 2 ^ 56 ⌝ }
+    ensures { λ r. ⌜ r ≡ numberOf why + 256 * place ⌝ }
+{
+    number(why) + 256 * (place as u64)
+}
+
+// Words at the start of a summary.
+pub fn put_words(summary: &mut [u8], words: &[u64])
+    requires { ⌜ 8 * length (now words) ≤ length (now summary) ⌝ }
+    ensures { λ _. ⌜ now (summary .exit) ≡ wordBytes 8 (now (words .entry)) ++ drop (8 * length (now (words .entry))) (now (summary .entry)) ⌝ }
+{
+    let mut i = 0;
+    while i < words.len() {
+        store(summary, 8 * i, words[i]);
+        i += 1;
+    }
+}
+
+// 1 for true, 0 for false.
+pub fn flag(b: bool) -> u64
+    ensures { λ r. ⌜ r ≡ flagWord b ⌝ }
+{
+    if b { 1 } else { 0 }
+}
