@@ -118,16 +118,16 @@ static size_t stack_of(uint64_t (*call)(void))
 
 static uint64_t edition; /* of the calls */
 
-/* Runs all groups: an exit status. */
+/* Runs all groups: an exit status. Those of records have no edition. */
 static int run_groups(void (*in_each_edition)(void), void (*besides)(void))
 {
     for (at_start = 0; at_start <= 1; at_start++) {
         const char *where = at_start ? "begin right behind a protected page" : "end at a protected page";
-        for (edition = HOLZMOTTE_EDITION_OLD; edition <= HOLZMOTTE_EDITION_NEW; edition++) {
+        for (edition = HOLZMOTTE_EDITION_OLD; in_each_edition && edition <= HOLZMOTTE_EDITION_NEW; edition++) {
             printf("the %s edition, buffers %s:\n", edition == HOLZMOTTE_EDITION_OLD ? "old" : "new", where);
             in_each_edition();
         }
-        printf("both editions, buffers %s:\n", where);
+        printf("%sbuffers %s:\n", in_each_edition ? "both editions, " : "", where);
         besides();
     }
     printf("%d passed, %d failed\n", passed, failed);

@@ -36,14 +36,14 @@ static void frame(size_t n)
     add(TERMINATE, 1);
 }
 
-/* The line as records of at most 4,092 bytes: body length, kind 2, body. */
+/* The line as records that phones not yet updated read too. */
 static void write_records(size_t len)
 {
-    for (size_t at = 0; at < len; at += 4092) {
-        size_t body = len - at < 4092 ? len - at : 4092;
-        uint8_t head[4] = {(uint8_t)(body % 256), (uint8_t)(body / 256), 2, 0};
-        fwrite(head, 1, 4, stdout);
-        fwrite(line + at, 1, body, stdout);
+    static uint8_t record[HOLZMOTTE_RECORD_BYTES(HOLZMOTTE_OLD_MAX_RECORD_BODY)];
+    for (size_t at = 0; at < len; at += HOLZMOTTE_OLD_MAX_RECORD_BODY) {
+        size_t body = len - at < HOLZMOTTE_OLD_MAX_RECORD_BODY ? len - at : HOLZMOTTE_OLD_MAX_RECORD_BODY;
+        if (holzmotte_write_record(HOLZMOTTE_KIND_LINE, line + at, body, 0, record, sizeof record) == HOLZMOTTE_DONE)
+            fwrite(record, 1, HOLZMOTTE_RECORD_BYTES(body), stdout);
     }
 }
 

@@ -28,10 +28,8 @@
 static const char USAGE[] =
     "usage: linkwatch [--energy-saving] CAPTURE ...\n"
     "A capture is a file, or a pipe such as /dev/stdin, of records: body length and kind (two bytes each, least significant first), then\n"
-    "the body. All are of kind 2, line bytes, at most 4,092 in a record. They are told as they come, in parts of at most 825,000 bytes.\n"
+    "the body. All are of kind 2, line bytes, at most 65,472 in a record. They are told as they come, in parts of at most 825,000 bytes.\n"
     "--energy-saving is for links that have Energy Efficient Ethernet (IEEE 802.3az) on: low power idle is then no error.\n";
-
-#define MOST_BODY 4092
 
 /* What the library is given again with each burst, and its summary: the last one, and the one with which lock first came. */
 struct receiver {
@@ -39,7 +37,7 @@ struct receiver {
     uint8_t summary[HOLZMOTTE_RECEIVE_SUMMARY_BYTES], at_lock[HOLZMOTTE_RECEIVE_SUMMARY_BYTES];
 };
 static struct receiver watched, in_new; /* in_new: the same line in the new edition, for its control code faults alone */
-static uint8_t vectors[HOLZMOTTE_BURST_ROOM(MOST_BODY)];
+static uint8_t record[HOLZMOTTE_RECORD_BYTES(HOLZMOTTE_MAX_RECORD_BODY)], vectors[HOLZMOTTE_BURST_ROOM(HOLZMOTTE_MAX_RECORD_BODY)];
 static uint8_t total[HOLZMOTTE_COUNTERS_BYTES], not_told[HOLZMOTTE_COUNTERS_BYTES]; /* not_told: what in_new counts */
 static unsigned long lock, low_power; /* blocks tested when lock first came, or 0; vectors of low power idle */
 static size_t place, heard;           /* of the record that is read; line bytes before it */
@@ -311,31 +309,35 @@ static int feed(const uint8_t *bytes, size_t n)
     return number;
 }
 
-/* Has a capture received, record by record, as they come: 0, or the number of the first refusal. A record is body length (2 bytes), kind
- * (2 bytes; 1 vectors, 2 line bytes) and body. */
+/* Finds the next record of a capture, a byte at a time, as they come: while it is cut, more of it may come. The library's result. */
+static uint64_t next_record(FILE *file, uint8_t *summary)
+{
+    size_t bytes = 0;
+    for (int byte; bytes < sizeof record && (byte = getc(file)) != EOF;) {
+        record[bytes++] = (uint8_t)byte;
+        uint64_t result = holzmotte_read_record(record, bytes, 0, summary, HOLZMOTTE_READ_SUMMARY_BYTES);
+        if (HOLZMOTTE_NUMBER(result) != HOLZMOTTE_RECORD_CUT)
+            return result;
+    }
+    return holzmotte_read_record(record, bytes, 0, summary, HOLZMOTTE_READ_SUMMARY_BYTES);
+}
+
+/* Has a capture received, record by record, as they come: 0, or the number of the first refusal. */
 static int follow(FILE *file)
 {
-    static uint8_t body[MOST_BODY];
-    uint8_t head[4] = {0};
-    size_t got, len;
-    int number = HOLZMOTTE_DONE;
-    for (place = heard = 0; number == HOLZMOTTE_DONE && (got = fread(head, 1, 4, file)) > 0; place += 4 + len, heard += len) {
-        size_t kind = head[2] + 256u * head[3];
-        len = head[0] + 256u * head[1];
-        if (got < 4)
-            return HOLZMOTTE_RECORD_CUT;
-        if (len > MOST_BODY)
-            return HOLZMOTTE_RECORD_LONG;
-        if (kind != 1 && kind != 2)
+    uint8_t summary[HOLZMOTTE_READ_SUMMARY_BYTES];
+    for (place = heard = 0;;) {
+        int number = HOLZMOTTE_NUMBER(next_record(file, summary));
+        size_t len = (size_t)holzmotte_word(summary, HOLZMOTTE_READ_LENGTH);
+        if (number != HOLZMOTTE_DONE || !holzmotte_word(summary, HOLZMOTTE_READ_FOUND))
+            return number;
+        if (holzmotte_word(summary, HOLZMOTTE_READ_KIND) != HOLZMOTTE_KIND_LINE)
             return HOLZMOTTE_RECORD_KIND;
-        if (fread(body, 1, len, file) < len)
-            return HOLZMOTTE_RECORD_CUT;
-        if (kind == 1)
-            return len % 40 == 0 ? HOLZMOTTE_RECORD_KIND : HOLZMOTTE_RAGGED;
-        number = feed(body, len);
+        if ((number = feed(record + holzmotte_word(summary, HOLZMOTTE_READ_START), len)) != HOLZMOTTE_DONE)
+            return number;
+        place += HOLZMOTTE_RECORD_BYTES(len), heard += len;
         end_unless_written();
     }
-    return number;
 }
 
 /* Tells one capture: an exit status. */

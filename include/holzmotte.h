@@ -1,8 +1,8 @@
 /* Holzmotte: the physical coding sublayer of a 10GBASE-R link (IEEE 802.3 Clause 49), from XGMII vectors to line bits and back.
  *
- * Five functions, proved to do what the project's definitions say for every input: to send, to receive, and to begin, go on and close where
- * a line is received in bursts. They allocate nothing, keep nothing between calls and touch no memory but what is lent to them, their
- * stack and constants of their own, so they may be called from any thread.
+ * Seven functions, proved to do what the project's definitions say for every input: to send, to receive, to begin, go on and close where
+ * a line is received in bursts, and to read and write a record of a capture file. They allocate nothing, keep nothing between calls and
+ * touch no memory but what is lent to them, their stack and constants of their own, so they may be called from any thread.
  *
  * Compiling. This file is C11 and C++11. After `make install`: cc -std=c11 app.c -lholzmotte
  * Without it, in the project's folder after `make native`: cc -std=c11 -Iinclude app.c target/native/libholzmotte.a
@@ -11,8 +11,8 @@
  *   - The caller owns it, before, during and after the call; the library keeps no pointer.
  *   - The pointer is not NULL, even where the length is 0: pass the address of anything then.
  *   - All of it is readable memory, and writable where the pointer is not to const; the length is at most PTRDIFF_MAX.
- *   - A slice that is written (line and summary in sending; vectors, summary and counters in receiving; state in bursts) overlaps no
- *     other slice of the call, nor of a call that runs at the same time.
+ *   - A slice that is written (line and summary in sending; vectors, summary and counters in receiving; state in bursts; summary or room
+ *     with records) overlaps no other slice of the call, nor of a call that runs at the same time.
  * Nothing checks these four, and nothing else is asked: no pointer has to be aligned, and every other fault is refused by a number.
  *
  * Bytes. A word is five bytes: a control byte (bit i set when lane i carries a control character; bits 4 to 7 zero), then lanes 0
@@ -24,11 +24,11 @@
  *
  * Result. 0 on success, else refusal number + 256 x place: HOLZMOTTE_NUMBER and HOLZMOTTE_PLACE take it apart. Of several refusals
  * that apply the first is given, in the order that stands at each function. The place is 0 but for refusal 5, where it is the
- * offset in `vectors` of the first control byte above 15.
+ * offset in `vectors` of the first control byte above 15, and where a record is read: there it is the head's offset in the file.
  *
  * What is written. A success writes exactly the bytes that stand at each function, from the start of the lent slice, and leaves the
- * rest of the slice as it was. A refusal leaves `line`, or `vectors`, `counters` and `state`, as they were and writes the summary's
- * bytes as zeros; where the summary slice is too short for them it stays as it was, whatever the refusal.
+ * rest of the slice as it was. A refusal leaves `line`, or `vectors`, `counters` and `state`, or `room`, as they were and writes the
+ * summary's bytes as zeros; where the summary slice is too short for them it stays as it was, whatever the refusal.
  */
 #ifndef HOLZMOTTE_H
 #define HOLZMOTTE_H
@@ -45,9 +45,9 @@ extern "C" {
  * compiled with the header of its library: nothing notices a call with too few parameters, such as every call that was compiled with a
  * header before 0.6.0. */
 #define HOLZMOTTE_VERSION_MAJOR 0
-#define HOLZMOTTE_VERSION_MINOR 7
+#define HOLZMOTTE_VERSION_MINOR 8
 #define HOLZMOTTE_VERSION_PATCH 0
-#define HOLZMOTTE_VERSION "0.7.0"
+#define HOLZMOTTE_VERSION "0.8.0"
 
 /* So much stack is enough for a call. This is tested, not proved: measured on x86-64, sending and the closing call take up to
  * 0.7 KB, receiving 0.9 KB and a burst 0.8 KB; an earlier version took 7.5 KB to send and 7.2 KB to receive on 64-bit Arm. */
@@ -63,12 +63,18 @@ extern "C" {
 #define HOLZMOTTE_RECEIVE_SUMMARY_BYTES 96
 #define HOLZMOTTE_COUNTERS_BYTES 32
 #define HOLZMOTTE_STATE_BYTES 232
+#define HOLZMOTTE_READ_SUMMARY_BYTES 40
+#define HOLZMOTTE_MAX_RECORD_BODY 65472
+#define HOLZMOTTE_OLD_MAX_RECORD_BODY 4092 /* of phones not yet updated */
 
 /* The room that sending wants for its line, and receiving for its vectors (also where slips leave fewer vectors than fit). For a burst the
  * third is enough whatever its state is, and for the closing call 10 bytes, which is HOLZMOTTE_BURST_ROOM(0). */
 #define HOLZMOTTE_LINE_ROOM(vector_bytes) ((size_t)(vector_bytes) / 40 * 33)
 #define HOLZMOTTE_VECTOR_ROOM(line_bytes) ((size_t)(line_bytes) * 8 / 66 * 10)
 #define HOLZMOTTE_BURST_ROOM(line_bytes) (((size_t)(line_bytes) * 8 + 65) / 66 * 10 + 10)
+
+/* The bytes of a record: its head and its body. */
+#define HOLZMOTTE_RECORD_BYTES(body_bytes) ((size_t)(body_bytes) + 4)
 
 /* A start state is below this: 58 bits. */
 #define HOLZMOTTE_START_STATES ((uint64_t)1 << 58)
@@ -77,7 +83,7 @@ extern "C" {
 #define HOLZMOTTE_NUMBER(result) ((int)((result) % 256))
 #define HOLZMOTTE_PLACE(result) ((uint64_t)((result) / 256))
 
-/* The refusal numbers. The functions here give 1 to 5, 9, 10 and 13; 6, 7 and 8 are for a program that reads capture records. */
+/* The refusal numbers. */
 enum holzmotte_refusal {
     HOLZMOTTE_DONE = 0,
     HOLZMOTTE_TOO_LONG = 1,     /* more than 1,000,000 vector bytes, or 825,000 line bytes, those of earlier bursts included */
@@ -86,8 +92,8 @@ enum holzmotte_refusal {
     HOLZMOTTE_NO_ROOM = 4,      /* a slice that is written is too short */
     HOLZMOTTE_CONTROL_BYTE = 5, /* a control byte above 15; its place is the byte offset of the first */
     HOLZMOTTE_RECORD_CUT = 6,   /* under four head bytes, or a body past the end */
-    HOLZMOTTE_RECORD_LONG = 7,  /* a body of more than 4,092 bytes */
-    HOLZMOTTE_RECORD_KIND = 8,  /* a kind that is not 1 or 2, or not the one that the program takes */
+    HOLZMOTTE_RECORD_LONG = 7,  /* a body above the limit: 65,472 bytes, or 4,092 where a writer keeps to the old one */
+    HOLZMOTTE_RECORD_KIND = 8,  /* a kind that is not 1 or 2; in a program, not the one that it takes */
     HOLZMOTTE_CLOSED = 9,       /* a burst or a closing call after the closing one */
     HOLZMOTTE_BAD_STATE = 10,   /* a state that no line leads to: one of the limits at enum holzmotte_state_word is passed */
     HOLZMOTTE_NO_EDITION = 13   /* an edition that is not 0 or 1 */
@@ -104,7 +110,7 @@ static inline const char *holzmotte_refusal_text(int number)
     case HOLZMOTTE_NO_ROOM: return "a buffer is too short for the answer";
     case HOLZMOTTE_CONTROL_BYTE: return "a control byte is above 15";
     case HOLZMOTTE_RECORD_CUT: return "the file ends inside a record";
-    case HOLZMOTTE_RECORD_LONG: return "a record has a body of more than 4,092 bytes";
+    case HOLZMOTTE_RECORD_LONG: return "a record has a body that is longer than the limit";
     case HOLZMOTTE_RECORD_KIND: return "a record is of another kind than is read here";
     case HOLZMOTTE_CLOSED: return "the closing call has been made";
     case HOLZMOTTE_BAD_STATE: return "the state is damaged: no line leads to it";
@@ -421,6 +427,65 @@ uint64_t holzmotte_burst(uint8_t *state, size_t state_len, const uint8_t *line, 
  * Refusals, in this order: 4 (state too short), 13, 9, 10, 4 (vectors, summary or counters too short). */
 uint64_t holzmotte_close(uint8_t *state, size_t state_len, uint8_t *vectors, size_t vectors_len,
                          uint8_t *summary, size_t summary_len, uint8_t *counters, size_t counters_len);
+
+/* Capture records: the file in which a probe delivers what it captured. A file is records, one after the other. A record is a head of four
+ * bytes, body length and kind, each two bytes, least significant first, and the body. These two functions know nothing of what a body
+ * holds but that vectors come in fours.
+ *
+ * Here a whole file is read, and `show` gets each body where it stands:
+ *
+ *     static uint64_t read_all(const uint8_t *file, size_t file_len)
+ *     {
+ *         uint8_t summary[HOLZMOTTE_READ_SUMMARY_BYTES];
+ *         uint64_t place = 0, result;
+ *         while ((result = holzmotte_read_record(file, file_len, place, summary, sizeof summary)) == HOLZMOTTE_DONE &&
+ *                holzmotte_word(summary, HOLZMOTTE_READ_FOUND)) {
+ *             show(holzmotte_word(summary, HOLZMOTTE_READ_KIND), file + holzmotte_word(summary, HOLZMOTTE_READ_START),
+ *                  holzmotte_word(summary, HOLZMOTTE_READ_LENGTH));
+ *             place = holzmotte_word(summary, HOLZMOTTE_READ_NEXT);
+ *         }
+ *         return result;
+ *     }
+ *
+ * A file that is still being written is read so too: a record that is cut (refusal 6) may be whole once more bytes are there.
+ *
+ * The limits. A body has at most 65,472 bytes. A reader of before that takes at most 4,092: a longer body it refuses with 7, and it shows
+ * no part of it and nothing of what follows it; up to there it finds what a reader of now does. So a writer says which limit it keeps.
+ * What it wrote within a limit is read back by a reader with that limit. This is proved. The project's two programs read records by
+ * the new limit and write them by the old one. */
+enum holzmotte_record_kind {
+    HOLZMOTTE_KIND_VECTORS = 1, /* vectors, a multiple of 40 bytes; the longest body has 65,440 */
+    HOLZMOTTE_KIND_LINE = 2     /* line bytes */
+};
+
+/* The words of the summary: 64-bit numbers, least significant byte first, word i at byte 8 * i. All five are 0 where no record is left. */
+enum holzmotte_read_word {
+    HOLZMOTTE_READ_FOUND = 0,  /* 1 where there is a record, 0 where none is left */
+    HOLZMOTTE_READ_KIND = 1,   /* an enum holzmotte_record_kind */
+    HOLZMOTTE_READ_START = 2,  /* the offset of its body in the file */
+    HOLZMOTTE_READ_LENGTH = 3, /* the bytes of its body, which may be none */
+    HOLZMOTTE_READ_NEXT = 4    /* the offset of what follows it: the next place to read at */
+};
+
+/* Finds the record whose head is at a place of a file. At the end of the file, or past it, no record is left: that is no refusal.
+ *
+ *   file     read: the bytes of the file, as many as there are
+ *   place    the offset of the head
+ *   summary  written: HOLZMOTTE_READ_SUMMARY_BYTES bytes
+ *
+ * Refusals, in this order: 6 (under four bytes of a head), 7 (more than HOLZMOTTE_MAX_RECORD_BODY), 8, 6 (the body past the end), 2 (kind 1
+ * alone), with the head's place; 4 (summary too short). Of a place the result has 56 bits, enough for every file of up to 2^56 bytes. */
+uint64_t holzmotte_read_record(const uint8_t *file, size_t file_len, uint64_t place, uint8_t *summary, size_t summary_len);
+
+/* Writes a record.
+ *
+ *   kind  an enum holzmotte_record_kind
+ *   body  read
+ *   wide  0: the body keeps to HOLZMOTTE_OLD_MAX_RECORD_BODY; any other number: to HOLZMOTTE_MAX_RECORD_BODY
+ *   room  written: HOLZMOTTE_RECORD_BYTES(body_len) bytes
+ *
+ * Refusals, in this order: 7, 8, 2 (kind 1 alone), 4 (room too short). */
+uint64_t holzmotte_write_record(uint64_t kind, const uint8_t *body, size_t body_len, uint64_t wide, uint8_t *room, size_t room_len);
 
 #ifdef __cplusplus
 }

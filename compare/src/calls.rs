@@ -64,6 +64,11 @@ pub struct Tally {
     pub held_end: u64,
     /// Calls from foreign states that were accepted.
     pub foreign: u64,
+    /// Capture records that were read, those of them that an old reader refuses, ends of records, and records that were written.
+    pub records: u64,
+    pub long_records: u64,
+    pub ends: u64,
+    pub written: u64,
 }
 
 impl Tally {
@@ -84,6 +89,10 @@ impl Tally {
         self.before_skip += other.before_skip;
         self.held_end += other.held_end;
         self.foreign += other.foreign;
+        self.records += other.records;
+        self.long_records += other.long_records;
+        self.ends += other.ends;
+        self.written += other.written;
     }
 
     fn add_faults(&mut self, faults: [u64; 4]) {

@@ -4,6 +4,7 @@ mod bursts;
 mod damage;
 mod faults;
 mod lists;
+mod records;
 mod refusals;
 mod states;
 
@@ -15,7 +16,7 @@ pub struct Group {
     pub run: fn(&mut Calls) -> Outcome,
 }
 
-pub const GROUPS: [Group; 17] = [
+pub const GROUPS: [Group; 18] = [
     Group { name: "types", says: "every header and type byte in lock, edge and random payloads", run: blocks::types },
     Group { name: "octets", says: "all 256 octets in each character position of each format", run: blocks::octets },
     Group { name: "codes", says: "every code in each field of each format, unused bits set", run: blocks::codes },
@@ -41,4 +42,5 @@ pub const GROUPS: [Group; 17] = [
     Group { name: "windows", says: "1,000 cuttings around the end of a window", run: bursts::windows },
     Group { name: "longest", says: "825,000 bytes in bursts, and one more", run: bursts::longest },
     Group { name: "states", says: "states of any numbers, judged and gone on from", run: states::states },
+    Group { name: "records", says: "capture records read at any place, written and read back", run: records::records },
 ];

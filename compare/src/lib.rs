@@ -7,4 +7,5 @@ pub mod library;
 pub mod lines;
 pub mod lists;
 pub mod random;
+pub mod records;
 pub mod reference;

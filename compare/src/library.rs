@@ -46,6 +46,16 @@ extern "C" {
         counters: *mut u8,
         counters_len: usize,
     ) -> u64;
+    fn holzmotte_read_record(file: *const u8, file_len: usize, place: u64, summary: *mut u8, summary_len: usize)
+        -> u64;
+    fn holzmotte_write_record(
+        kind: u64,
+        body: *const u8,
+        body_len: usize,
+        wide: u64,
+        room: *mut u8,
+        room_len: usize,
+    ) -> u64;
 }
 
 /// Sends a list: 0, or refusal number + 256 x place.
@@ -123,6 +133,18 @@ pub fn close(state: &mut [u8], vectors: &mut [u8], summary: &mut [u8], counters:
             counters.len(),
         )
     }
+}
+
+/// The record at a place of a file: 0, or refusal number + 256 x place.
+pub fn read_record(file: &[u8], place: u64, summary: &mut [u8]) -> u64 {
+    // Safety: as above.
+    unsafe { holzmotte_read_record(file.as_ptr(), file.len(), place, summary.as_mut_ptr(), summary.len()) }
+}
+
+/// A record of a body: 0, or a refusal's number.
+pub fn write_record(kind: u64, body: &[u8], wide: u64, room: &mut [u8]) -> u64 {
+    // Safety: as above.
+    unsafe { holzmotte_write_record(kind, body.as_ptr(), body.len(), wide, room.as_mut_ptr(), room.len()) }
 }
 
 /// The words of receiving's summary, and its bytes.

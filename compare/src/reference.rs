@@ -7,6 +7,7 @@ pub mod edition;
 pub mod fault;
 pub mod kept;
 pub mod receiving;
+pub mod records;
 pub mod resumed;
 pub mod scrambler;
 pub mod sending;

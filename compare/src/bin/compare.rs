@@ -109,6 +109,10 @@ fn round(options: &Options, seed: u64) -> (usize, usize) {
          before a Terminate is answered: {}",
         total.bursts, total.foreign, total.in_header, total.before_skip, total.held_end
     );
+    println!(
+        "records read: {}, of them longer than an old reader takes: {}, ends of records: {}; records written: {}",
+        total.records, total.long_records, total.ends, total.written
+    );
     (passed, failed)
 }
 

@@ -11,7 +11,7 @@ use Rattle.receiving.specs.Answer as Receiving
 use Rattle.receiving.specs.Answer.{receiveChecks}
 use Rattle.receiving.specs.declared.Summary.{Summary}
 use Rattle.counters.specs.Counters.{updated}
-use Rattle.summaries.specs.Summaries.{resultOf, summaryWith}
+use Rattle.lent_words.specs.Words.{resultOf, summaryWith}
 use Rattle.slices.specs.Slices.{countersIn, countersWith, receiveLength, receiveWords}
 use Rattle.holzmotte.specs.Boundary.{sendVerdict, sendWords, sendResult, sendLine, sendSummary, receiveVerdict, receiveResult, receiveVectors, receiveSummary, receiveCounters}
 use Rattle.editions.specs.ThroughC.{sendVerdictBefore, SendingUnchangedThroughC, receiveVerdictBefore, ReceivingUnchangedThroughC}

@@ -8,7 +8,7 @@ use Rattle.refusals.specs.First.{check, Verdict, first, byVerdict}
 use Rattle.sending.specs.Answer as Sending
 use Rattle.receiving.specs.Answer as Receiving
 use Rattle.counters.specs.Counters.{updated}
-use Rattle.summaries.specs.Summaries.{resultOf, oneMoreAfter, tooShort, summaryWith}
+use Rattle.lent_words.specs.Words.{resultOf, oneMoreAfter, tooShort, summaryWith}
 use Rattle.slices.specs.Slices.{countersIn, countersWith, receiveLength, shortSlice, receiveWords}
 use Rattle.holzmotte.specs.Boundary.{sendWords, SendsThroughC, ReceivesThroughC}
 use Rattle.editions.specs.Before.{sendChecksBefore, sentBefore, sendRoomBefore, receiveChecksBefore, summaryBefore, receiveRoomBefore}

@@ -11,9 +11,9 @@ use Rattle.transmit.specs.Send.{sentLine}
 use Rattle.sending.specs.Answer as Sending
 use Rattle.receiving.specs.Receive.{receivedVectors}
 use Rattle.receiving.specs.Answer as Receiving
-use Rattle.summaries.specs.Summaries.{oneMoreAfter, tooShort, summaryWith}
+use Rattle.lent_words.specs.Words.{oneMoreAfter, tooShort, summaryWith}
 use Rattle.slices.specs.Slices.{shortSlice, receiveLength, receiveWords}
-use Rattle.summaries.proofs.Demand1.{through}
+use Rattle.lent_words.proofs.Demand1.{through}
 use Rattle.holzmotte.specs.Boundary.{sendVerdict, sendWords, sendResult, sendLine, sendSummary, receiveVerdict, receiveResult, receiveVectors, receiveSummary, receiveCounters}
 use Rattle.holzmotte.specs.Demand1.{Demand1OfSendThroughC, Demand1OfReceiveThroughC}
 

@@ -16,11 +16,11 @@ use Rattle.receiving.specs.declared.Summary.{Summary}
 use Rattle.receiving.specs.declared.Received.{Received}
 use Rattle.counters.specs.Counters.{countersAfter}
 use Rattle.counters.specs.declared.Counters.{Counters}
-use Rattle.summaries.specs.Summaries.{resultOf, wordBytes, tooShort, summaryWith}
+use Rattle.lent_words.specs.Words.{resultOf, wordBytes, tooShort, summaryWith}
 use Rattle.slices.specs.Slices.{countersIn, countersWith, receiveLength, shortSlice, receiveWords}
 use Rattle.holzmotte.specs.Boundary.{receiveVerdict, receiveResult, receiveVectors, receiveSummary, receiveCounters, ReceivesThroughC}
-use Rattle.summaries.proofs.Laws.{first-after, place-zero, summary-long}
-use Rattle.summaries.proofs.Applied.{shortOf, never, short-result}
+use Rattle.lent_words.proofs.Laws.{first-after, place-zero, summary-long}
+use Rattle.lent_words.proofs.Applied.{shortOf, never, short-result}
 
 -- what a match finds of an answer has its values
 pub as-found : (w : ReceiveAnswer) {x y : Received} → x ≡ y → Answer.answerOf x ≡ w → Answer.answerOf y ≡ w

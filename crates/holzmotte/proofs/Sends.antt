@@ -13,10 +13,10 @@ use Rattle.block.specs.Block.{highControl}
 use Rattle.sending.specs.Answer.{SendAnswer, sendChecks, sendAnswer, sendRoom}
 use Rattle.sending.specs.Answer as Answer
 use Rattle.sending.proofs.Verdicts.{verdictOfSend, verdict-told, place-small}
-use Rattle.summaries.specs.Summaries.{resultOf, oneMoreAfter, wordBytes, tooShort}
+use Rattle.lent_words.specs.Words.{resultOf, oneMoreAfter, wordBytes, tooShort}
 use Rattle.holzmotte.specs.Boundary.{sendVerdict, sendWords, sendResult, sendLine, sendSummary, SendsThroughC}
-use Rattle.summaries.proofs.Laws.{long-first, kept, summary-short, summary-long}
-use Rattle.summaries.proofs.Applied.{shortOf, never, short-result}
+use Rattle.lent_words.proofs.Laws.{long-first, kept, summary-short, summary-long}
+use Rattle.lent_words.proofs.Applied.{shortOf, never, short-result}
 
 -- no room, where none is needed or where some is: a control byte is looked at where some is
 no-room : (b e : Bool) (h : ℕ) → (b ≡ false → e ≡ false) → shortOf (first (check 4 b ∷ checkAt 5 h e ∷ [])) ≡ 4

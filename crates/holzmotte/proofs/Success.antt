@@ -13,9 +13,9 @@ use Rattle.receiving.specs.Answer.{received, receiveChecks, summaryOf, receiveA
 use Rattle.receiving.specs.Answer as Answer
 use Rattle.receiving.specs.declared.Summary.{Summary}
 use Rattle.counters.specs.Counters.{updated}
-use Rattle.summaries.specs.Summaries.{wordBytes, summaryWith}
+use Rattle.lent_words.specs.Words.{wordBytes, summaryWith}
 use Rattle.slices.specs.Slices.{countersIn, countersWith, receiveLength, shortSlice, receiveWords}
-use Rattle.summaries.proofs.Laws.{result-zero, summary-long}
+use Rattle.lent_words.proofs.Laws.{result-zero, summary-long}
 use Rattle.holzmotte.specs.Boundary.{receiveVerdict, receiveResult, receiveVectors, receiveSummary, receiveCounters, ReceivesThroughC}
 use Rattle.holzmotte.proofs.Receives.{verdict-is, long-summary}
 

@@ -9,7 +9,7 @@ use Rattle.block.specs.Block.{editionOf}
 use Rattle.sending.specs.Answer as Send
 use Rattle.receiving.specs.Answer as Receive
 use Rattle.counters.specs.Counters.{updated}
-use Rattle.summaries.specs.Summaries.{resultOf, oneMoreAfter, tooShort, summaryWith}
+use Rattle.lent_words.specs.Words.{resultOf, oneMoreAfter, tooShort, summaryWith}
 use Rattle.slices.specs.Slices.{countersIn, countersWith, receiveLength, shortSlice, receiveWords}
 
 -- ---- sending: refusals 13, 1, 2, 3, then 4 for the summary or the room, then 5

@@ -12,9 +12,9 @@ use Rattle.sending.specs.Answer as Sending
 use Rattle.receiving.specs.Receive.{receivedVectors}
 use Rattle.receiving.specs.Answer as Receiving
 use Rattle.counters.specs.Counters.{updated}
-use Rattle.summaries.specs.Summaries.{oneMoreAfter, wordBytes, tooShort}
+use Rattle.lent_words.specs.Words.{oneMoreAfter, wordBytes, tooShort}
 use Rattle.slices.specs.Slices.{countersIn, countersWith, receiveLength, shortSlice, receiveWords}
-use Rattle.summaries.specs.Demand1.{zeroed}
+use Rattle.lent_words.specs.Demand1.{zeroed}
 use Rattle.holzmotte.specs.Boundary.{sendWords, SendsThroughC, ReceivesThroughC}
 
 -- sending

@@ -1,5 +1,7 @@
 // The C boundary: byte slices and 64-bit numbers. include/holzmotte.h says what each pointer is.
 use counters::receive_by_value;
+use lent_words::put_words;
+use lent_words::refusal;
 use receiving::Received;
 use reception::receive;
 use sending::Sent;
@@ -9,8 +11,6 @@ use slices::load_counters;
 use slices::put_summary;
 use slices::short_slice;
 use slices::store_counters;
-use summaries::put_words;
-use summaries::refusal;
 ghost use mathlib.Core.Path.{_≡_};
 ghost use Prim.Native.Nat.{ℕ, _<_};
 ghost use lib.ListN.{length};

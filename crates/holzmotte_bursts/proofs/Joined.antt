@@ -16,9 +16,9 @@ use Rattle.receiving.specs.Answer.{ReceiveAnswer, received, summaryOf, answerOf
 use Rattle.receiving.specs.declared.Summary.{Summary}
 use Rattle.receiving.specs.declared.Received.the-variants.{Done}
 use Rattle.counters.specs.Counters.{updated}
-use Rattle.summaries.specs.Summaries.{resultOf, wordBytes, summaryWith}
+use Rattle.lent_words.specs.Words.{resultOf, wordBytes, summaryWith}
 use Rattle.slices.specs.Slices.{countersIn, countersWith, receiveLength, receiveWords}
-use Rattle.summaries.proofs.Laws.{summary-long, length-words}
+use Rattle.lent_words.proofs.Laws.{summary-long, length-words}
 use Rattle.slices.proofs.Totals.{twice-in-bytes}
 use Rattle.kept_state.specs.declared.State.{State}
 use Rattle.bursts.specs.declared.Added.{Added}

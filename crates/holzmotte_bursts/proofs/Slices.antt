@@ -14,14 +14,14 @@ use Rattle.receiving.specs.Answer.{ReceiveAnswer, received, answerOf}
 use Rattle.receiving.specs.Answer as Answer
 use Rattle.receiving.specs.declared.Summary.{Summary}
 use Rattle.receiving.specs.declared.Received.{Received}
-use Rattle.summaries.specs.Summaries.{wordBytes, summaryWith, tooShort}
+use Rattle.lent_words.specs.Words.{wordBytes, summaryWith, tooShort}
 use Rattle.slices.specs.Slices.{countersIn, countersWith, receiveLength, shortSlice, receiveWords}
 use Rattle.counters.specs.Counters.{updated}
 use Rattle.counters.specs.declared.Counters.{Counters}
 use Rattle.receiving.specs.declared.Counts.{Counts}
 use Rattle.receiving.specs.declared.Handed.{Handed}
 use borrow.Author.Tests.{ltb-false}
-use Rattle.summaries.proofs.Laws.{summary-long}
+use Rattle.lent_words.proofs.Laws.{summary-long}
 use Rattle.kept_state.specs.declared.State.{State}
 use Rattle.bursts.specs.declared.Added.{Added}
 use Rattle.bursts.specs.declared.Reply.{Reply}

@@ -9,10 +9,10 @@ use lib.Dec.{ltb, lit<}
 use borrow.Author.Tests.{lt-ltb, le-ltb, ltb-false}
 use Rattle.refusals.specs.First.{Check, check, Verdict, accepted, refused, first, byVerdict}
 use Rattle.refusals.proofs.Laws.{passed}
-use Rattle.summaries.specs.Summaries.{resultOf, tooShort, oneMoreAfter}
+use Rattle.lent_words.specs.Words.{resultOf, tooShort, oneMoreAfter}
 use Rattle.slices.specs.Slices.{shortSlice}
-use Rattle.summaries.proofs.Laws.{first-after, skipped, place-zero, Numbered, refusal-above, result-zero}
-use Rattle.summaries.proofs.Applied.{cut-off, never}
+use Rattle.lent_words.proofs.Laws.{first-after, skipped, place-zero, Numbered, refusal-above, result-zero}
+use Rattle.lent_words.proofs.Applied.{cut-off, never}
 use Rattle.kept_state.specs.declared.State.{State}
 use Rattle.judging.specs.Judging.{roomFor, burstChecks, burstVerdict}
 use Rattle.bursts.specs.Burst.{stateFresh, begun, beginAnswer}

@@ -8,7 +8,7 @@ use lib.ListN.{length, replicate}
 use Rattle.refusals.specs.First.{check, Verdict, first, byVerdict}
 use Rattle.block.specs.Block.{editionCheck}
 use Rattle.counters.specs.Counters.{updated}
-use Rattle.summaries.specs.Summaries.{resultOf, oneMoreAfter, tooShort, summaryWith}
+use Rattle.lent_words.specs.Words.{resultOf, oneMoreAfter, tooShort, summaryWith}
 use Rattle.slices.specs.Slices.{countersIn, countersWith, receiveLength, shortSlice, receiveWords}
 use Rattle.judging.specs.Judging.{burstChecks}
 use Rattle.bursts.specs.Burst.{stateFresh, Called, burstCall, closeCall}

@@ -5,7 +5,7 @@ use mathlib.Core.List.{List}
 use lib.ListN.{replicate}
 use Rattle.receiving.specs.Answer.{ReceiveAnswer, received, refused}
 use Rattle.counters.specs.Counters.{updated}
-use Rattle.summaries.specs.Summaries.{summaryWith}
+use Rattle.lent_words.specs.Words.{summaryWith}
 use Rattle.slices.specs.Slices.{countersIn, countersWith, receiveLength, receiveWords}
 use Rattle.kept_state.specs.declared.State.{State}
 use Rattle.bursts.specs.declared.Added.{Added}

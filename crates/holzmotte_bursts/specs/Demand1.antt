@@ -4,7 +4,7 @@ use mathlib.Core.List.{List, _∷_}
 use lib.ListN.{length}
 use Rattle.refusals.specs.First.{check}
 use Rattle.refusals.specs.Outcome.{Outcome}
-use Rattle.summaries.specs.Summaries.{oneMoreAfter, tooShort}
+use Rattle.lent_words.specs.Words.{oneMoreAfter, tooShort}
 use Rattle.slices.specs.Slices.{shortSlice}
 use Rattle.judging.specs.Judging.{burstChecks}
 use Rattle.bursts.specs.Burst.{burstCall, closeCall}

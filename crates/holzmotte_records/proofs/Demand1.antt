@@ -13,8 +13,8 @@ use Rattle.records.specs.Record.{bodyLimit, readChecks, Answer, whole, end, rea
 use Rattle.records.specs.Record as Record
 use Rattle.record_writing.specs.Writing.{recordOf, writeChecks, writtenRoom}
 use Rattle.record_writing.proofs.Demand1.{room-by-record}
-use Rattle.summaries.specs.Summaries.{resultOf, wordBytes, tooShort, summaryWith}
-use Rattle.summaries.proofs.Laws.{zero-words}
+use Rattle.lent_words.specs.Words.{resultOf, wordBytes, tooShort, summaryWith}
+use Rattle.lent_words.proofs.Laws.{zero-words}
 use Rattle.holzmotte_records.specs.Boundary.{readingChecks, readingResult, recordWords, limitFor}
 use Rattle.holzmotte_records.specs.Demand1.{Demand1OfReadThroughC, WholePlace, Demand1OfWriteThroughC}
 use Rattle.holzmotte_records.proofs.Through.{verdictOf, reading-verdict}

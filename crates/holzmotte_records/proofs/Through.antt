@@ -15,8 +15,8 @@ use Rattle.refusals.proofs.Laws.{one-more}
 use Rattle.records.specs.Record.{bodyLimit, readChecks, Answer, whole, end, readAt}
 use Rattle.records.specs.Record as Record
 use Rattle.record_writing.specs.Writing.{writeChecks, WriteAnswer, wrote, unwritten, writeAnswer}
-use Rattle.summaries.specs.Summaries.{resultOf, wordBytes, tooShort, summaryWith}
-use Rattle.summaries.proofs.Laws.{summary-short, summary-long}
+use Rattle.lent_words.specs.Words.{resultOf, wordBytes, tooShort, summaryWith}
+use Rattle.lent_words.proofs.Laws.{summary-short, summary-long}
 use Rattle.holzmotte_records.specs.Boundary.{readingChecks, readingResult, recordWords, ReadsThroughC}
 
 -- ---- reading

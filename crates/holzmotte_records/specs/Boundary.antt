@@ -8,7 +8,7 @@ use lib.Dec.{leb, eqb}
 use Rattle.refusals.specs.First.{Check, check, first}
 use Rattle.records.specs.Record.{bodyLimit, readChecks, Answer, whole, end, refused, readAt}
 use Rattle.record_writing.specs.Writing.{limitKept, writeChecks, writtenRoom}
-use Rattle.summaries.specs.Summaries.{resultOf, tooShort, summaryWith}
+use Rattle.lent_words.specs.Words.{resultOf, tooShort, summaryWith}
 
 -- ---- reading: 6 (head), 7, 8, 6 (body), 2 (kind 1 only), all with the head's place, then 4 for the summary
 

@@ -8,8 +8,8 @@ use Rattle.refusals.specs.First.{first}
 use Rattle.refusals.specs.Outcome.{Outcome, OutcomeInRoom}
 use Rattle.records.specs.Record.{bodyLimit, readAt}
 use Rattle.record_writing.specs.Writing.{recordOf, writeChecks}
-use Rattle.summaries.specs.Summaries.{resultOf, wordBytes}
-use Rattle.summaries.specs.Demand1.{zeroed}
+use Rattle.lent_words.specs.Words.{resultOf, wordBytes}
+use Rattle.lent_words.specs.Demand1.{zeroed}
 use Rattle.holzmotte_records.specs.Boundary.{readingChecks, readingResult, recordWords, ReadsThroughC, limitFor, WritesThroughC}
 
 -- reading

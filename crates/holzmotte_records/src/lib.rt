@@ -1,14 +1,14 @@
 // The C boundary of capture records: byte slices and 64-bit numbers. include/holzmotte.h says what each pointer is.
+use lent_words::put_words;
+use lent_words::refusal;
 use record_writing::Written;
 use record_writing::write;
 use records::Found;
 use records::read;
-use summaries::put_words;
-use summaries::refusal;
 ghost use mathlib.Core.Path.{_≡_};
 ghost use mathlib.Core.Bool.{cond};
 ghost use lib.ListN.{length};
-ghost use Rattle.summaries.specs.Summaries.{tooShort, summaryWith};
+ghost use Rattle.lent_words.specs.Words.{tooShort, summaryWith};
 ghost use Rattle.holzmotte_records.specs.Boundary.{ReadsThroughC, WritesThroughC};
 
 // Five words to the summary; or refusal 4, where it is too short for them.

@@ -7,7 +7,7 @@ use Rattle.bits.specs.Bits.{bit, cut}
 use Rattle.bits.proofs.Laws.{cut-same, bit-below, bit-above}
 use Rattle.bits.proofs.Lists.{cut-add}
 use Rattle.counters.specs.declared.Counters.{Counters}
-use Rattle.summaries.specs.Summaries.{wordBytes}
+use Rattle.lent_words.specs.Words.{wordBytes}
 use Rattle.slices.specs.Slices.{counterWords}
 
 -- two numbers of 32 bits in one word

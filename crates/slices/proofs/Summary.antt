@@ -4,7 +4,7 @@ use mathlib.Core.Path.{_≡_, ap, ap₂, _∙_}
 use mathlib.Core.List.{List, [], _∷_, _++_}
 use Rattle.receiving.specs.Answer.{received}
 use Rattle.receiving.specs.declared.Summary.{Summary}
-use Rattle.summaries.specs.Summaries.{wordBytes, flagWord}
+use Rattle.lent_words.specs.Words.{wordBytes, flagWord}
 use Rattle.slices.specs.Slices.{receiveWords}
 
 -- the words, with the flags as they were made

@@ -11,9 +11,9 @@ use Rattle.receiving.specs.declared.Handed.{Handed}
 use Rattle.counters.specs.Counters.{becomes, updated}
 use Rattle.counters.specs.declared.Counters.{Counters}
 use Rattle.counters.proofs.Laws.{updated-twice}
-use Rattle.summaries.specs.Summaries.{wordBytes, wordAt}
+use Rattle.lent_words.specs.Words.{wordBytes, wordAt}
 use Rattle.slices.specs.Slices.{countersIn, counterWords, countersWith}
-use Rattle.summaries.proofs.Laws.{length-words, word-back}
+use Rattle.lent_words.proofs.Laws.{length-words, word-back}
 
 module _ (c : Counters) (n : Counts) (h : Handed) (bytes : List ℕ) where
   -- a counter has 32 bits

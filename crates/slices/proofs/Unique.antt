@@ -7,7 +7,7 @@ use lib.ListN.{drop, replicate}
 use Rattle.receiving.specs.Answer.{received}
 use Rattle.receiving.specs.declared.Summary.{Summary}
 use Rattle.counters.specs.declared.Counters.{Counters}
-use Rattle.summaries.specs.Summaries.{wordBytes, summaryWith}
+use Rattle.lent_words.specs.Words.{wordBytes, summaryWith}
 use Rattle.slices.specs.Slices.{shortSlice, countersIn, countersWith, receiveLength, receiveWords}
 
 -- two that equal a third

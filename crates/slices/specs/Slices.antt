@@ -7,7 +7,7 @@ use mathlib.Core.List.{List, [], _∷_, _++_}
 use lib.ListN.{drop, replicate}
 use Rattle.receiving.specs.Answer as Receive
 use Rattle.counters.specs.declared.Counters.{Counters}
-use Rattle.summaries.specs.Summaries.{wordBytes, wordAt, tooShort, flagWord}
+use Rattle.lent_words.specs.Words.{wordBytes, wordAt, tooShort, flagWord}
 
 -- ---- the counters: eight words of 32 bits
 

@@ -1,16 +1,16 @@
 // What C lends to receiving beside a line and room for vectors: a summary and the counters, as words in byte slices.
 use counters::Counters;
+use lent_words::flag;
+use lent_words::put_words;
 use line::load_half;
 use receiving::Summary;
-use summaries::flag;
-use summaries::put_words;
 ghost use mathlib.Core.Path.{_≡_};
 ghost use mathlib.Core.List.{_++_};
 ghost use Prim.Native.Nat.{_≤_};
 ghost use lib.ListN.{length, drop, replicate};
 ghost use Rattle.bits.specs.Bits.{bit, cut};
 ghost use Rattle.receiving.specs.Answer.{received};
-ghost use Rattle.summaries.specs.Summaries.{wordBytes, summaryWith};
+ghost use Rattle.lent_words.specs.Words.{wordBytes, summaryWith};
 ghost use Rattle.slices.specs.Slices.{shortSlice, countersIn, countersWith, receiveLength, receiveWords};
 
 // ---- the counters

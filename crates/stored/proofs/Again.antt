@@ -9,7 +9,7 @@ use Rattle.bits.specs.Bits.{lineBit}
 use Rattle.bits.proofs.Laws.{Words, none, more, number-lt}
 use Rattle.bits.proofs.Lists.{lineBit-lt}
 use Rattle.refusals.specs.First.{accepted}
-use Rattle.summaries.specs.Summaries.{wordAt, flagWord}
+use Rattle.lent_words.specs.Words.{wordAt, flagWord}
 use Rattle.kept_state.specs.declared.State.{State}
 use Rattle.judging.specs.Judging.{burstVerdict}
 use Rattle.bursts.specs.Burst.{stateFresh, burstState, closeState}

@@ -10,8 +10,8 @@ use lib.Seq.{getD-set-same, getD-set-other}
 use Rattle.bits.specs.Bits.{number, lineBit}
 use Rattle.bits.proofs.Laws.{Words, number-same}
 use Rattle.bits.proofs.Lists.{words-lt}
-use Rattle.summaries.specs.Summaries.{wordAt, wordBytes, flagWord}
-use Rattle.summaries.proofs.Laws.{word-back}
+use Rattle.lent_words.specs.Words.{wordAt, wordBytes, flagWord}
+use Rattle.lent_words.proofs.Laws.{word-back}
 use Rattle.kept_state.specs.declared.State.{State}
 use Rattle.stored.specs.Stored.{stateWords, yes, stateBy, stateIn, storedIn}
 

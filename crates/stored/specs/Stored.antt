@@ -5,7 +5,7 @@ use mathlib.Core.Bool.{Bool, not}
 use mathlib.Core.List.{List, [], _∷_, _++_}
 use lib.ListN.{drop}
 use lib.Dec.{eqb}
-use Rattle.summaries.specs.Summaries.{wordAt, wordBytes, flagWord}
+use Rattle.lent_words.specs.Words.{wordAt, wordBytes, flagWord}
 use Rattle.kept_state.specs.declared.State.{State}
 
 abbrev pub stateLength : ℕ

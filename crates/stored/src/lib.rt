@@ -2,13 +2,13 @@
 use carrying::Carried;
 use kept_state::Kept;
 use kept_state::State;
+use lent_words::flag;
+use lent_words::put_words;
 use line::load;
 use lock::Lock;
 use lock::Rate;
 use receiving::Counts;
 use receiving::Handed;
-use summaries::flag;
-use summaries::put_words;
 ghost use mathlib.Core.Path.{_≡_};
 ghost use Prim.Native.Nat.{_≤_};
 ghost use lib.ListN.{length, getD};

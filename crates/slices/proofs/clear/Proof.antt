@@ -4,7 +4,7 @@ use denote.Ref.{now}
 use lib.ListN.{replicate}
 use native.Mathlib.Omega.{arith}
 use Rattle.slices.specs.Slices.{receiveLength}
-use Rattle.summaries.proofs.Laws.{summary-short, summary-long}
+use Rattle.lent_words.proofs.Laws.{summary-short, summary-long}
 use borrow.Author.Needs.{needs}
 use Rattle.slices.proofs.clear.Statement.{statement}
 use Rattle.slices.proofs.clear.Tie as tie

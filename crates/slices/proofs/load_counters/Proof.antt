@@ -1,6 +1,6 @@
 -- `slices::load_counters` meets its contract, field by field. Assumes nothing.
 use borrow.Author.Needs.{needs}
-use Rattle.summaries.specs.Summaries.{wordAt}
+use Rattle.lent_words.specs.Words.{wordAt}
 use Rattle.slices.proofs.load_counters.Statement.{statement}
 use Rattle.slices.proofs.load_counters.Tie as tie
 

@@ -4,7 +4,7 @@ use mathlib.Core.Path.{_≡_, _∙_}
 use native.Mathlib.Omega.{arith}
 use denote.Ref.{now}
 use lib.ListN.{length, getD}
-use Rattle.summaries.specs.Summaries.{wordAt}
+use Rattle.lent_words.specs.Words.{wordAt}
 use Rattle.stored.proofs.Laws.{loaded, taken-more, taken-all}
 use borrow.Author.Needs.{needs}
 use Rattle.stored.proofs.load_state.Statement.{statement}

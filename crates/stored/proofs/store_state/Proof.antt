@@ -4,7 +4,7 @@ use mathlib.Core.Path.{ap, _∙_}
 use mathlib.Core.List.{List, _++_}
 use denote.Ref.{now}
 use lib.ListN.{length, drop}
-use Rattle.summaries.specs.Summaries.{wordBytes}
+use Rattle.lent_words.specs.Words.{wordBytes}
 use Rattle.stored.specs.Stored.{storedIn}
 use borrow.Author.Needs.{needs}
 use Rattle.stored.proofs.store_state.Statement.{statement}

@@ -1,11 +1,11 @@
--- `summaries::put_words` meets its contract, word by word. Assumes nothing.
+-- `lent_words::put_words` meets its contract, word by word. Assumes nothing.
 use Prim.Native.Nat.{_-_}
 use native.Mathlib.Omega.{arith}
 use lib.ListN.{length}
-use Rattle.summaries.proofs.Laws.{Put, put-first, put-next, put-done}
+use Rattle.lent_words.proofs.Laws.{Put, put-first, put-next, put-done}
 use borrow.Author.Needs.{needs}
-use Rattle.summaries.proofs.put_words.Statement.{statement}
-use Rattle.summaries.proofs.put_words.Tie as tie
+use Rattle.lent_words.proofs.put_words.Statement.{statement}
+use Rattle.lent_words.proofs.put_words.Tie as tie
 
 abbrev Inv-loop : tie.InvT-loop
 Inv-loop summary₀ words i₀ summary i = Put summary₀ words summary i

@@ -1,4 +1,4 @@
-// What every call through C answers, and the words of a lent summary.
+// What every call through C answers, and words in a lent slice.
 use line::store;
 use refusals::Refusal;
 use refusals::number;
@@ -7,7 +7,7 @@ ghost use mathlib.Core.List.{_++_};
 ghost use Prim.Native.Nat.{_+_, _*_, _^_, _≤_, _<_};
 ghost use lib.ListN.{length, drop};
 ghost use Rattle.refusals.specs.Number.{numberOf};
-ghost use Rattle.summaries.specs.Summaries.{flagWord, wordBytes};
+ghost use Rattle.lent_words.specs.Words.{flagWord, wordBytes};
 
 // A refusal as a result.
 pub fn refusal(why: Refusal, place: usize) -> u64

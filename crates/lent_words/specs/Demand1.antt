@@ -3,7 +3,7 @@ use Prim.Native.Nat.{ℕ, _*_}
 use mathlib.Core.Bool.{cond}
 use mathlib.Core.List.{List, _++_}
 use lib.ListN.{length, drop, replicate}
-use Rattle.summaries.specs.Summaries.{tooShort}
+use Rattle.lent_words.specs.Words.{tooShort}
 
 -- zeros for its words; one too short for them stays unchanged
 abbrev pub zeroed : (words : ℕ) (summary : List ℕ) → List ℕ

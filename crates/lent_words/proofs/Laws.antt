@@ -13,7 +13,7 @@ use Rattle.bits.specs.Bits.{bit, number, streamBit, lineBit, cut}
 use Rattle.bits.proofs.Laws.{length-cut, cut-same, bit-below, bit-above, bit-lt, is-number, number-same, stream-cut}
 use Rattle.bits.proofs.Lists.{cut-add, stream-left, stream-right}
 use Rattle.refusals.specs.First.{Check, check, Verdict, accepted, refused, first, byVerdict}
-use Rattle.summaries.specs.Summaries.{resultOf, oneMoreAfter, wordAt, wordBytes, tooShort, summaryWith}
+use Rattle.lent_words.specs.Words.{resultOf, oneMoreAfter, wordAt, wordBytes, tooShort, summaryWith}
 
 -- one more check that does not apply changes nothing
 pub head-first : (c : Check) (cs ds : List Check) → first cs ≡ first ds → first (c ∷ cs) ≡ first (c ∷ ds)

@@ -7,9 +7,9 @@ use lib.ListN.{length, drop, replicate}
 use borrow.Author.Tests.{ltb-false}
 use Rattle.refusals.specs.First.{Check, check, Verdict, accepted, refused, first, byVerdict}
 use Rattle.refusals.proofs.Laws.{passed}
-use Rattle.summaries.specs.Summaries.{resultOf, oneMoreAfter, wordBytes, tooShort, summaryWith}
-use Rattle.summaries.specs.Demand1.{zeroed}
-use Rattle.summaries.proofs.Laws.{first-after, summary-long, zero-words}
+use Rattle.lent_words.specs.Words.{resultOf, oneMoreAfter, wordBytes, tooShort, summaryWith}
+use Rattle.lent_words.specs.Demand1.{zeroed}
+use Rattle.lent_words.proofs.Laws.{first-after, summary-long, zero-words}
 
 -- ---- one more row in a list of refusals
 

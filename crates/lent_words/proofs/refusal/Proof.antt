@@ -1,7 +1,7 @@
 use native.Mathlib.Omega.{arith}
 use borrow.Author.Needs.{needs}
-use Rattle.summaries.proofs.refusal.Statement.{statement}
-use Rattle.summaries.proofs.refusal.Tie as tie
+use Rattle.lent_words.proofs.refusal.Statement.{statement}
+use Rattle.lent_words.proofs.refusal.Tie as tie
 
 number-requires : tie.Need-number-requires
 number-requires c κs = search needs

@@ -5,8 +5,8 @@ use mathlib.Core.Bool.{Bool, true, false, cond, true≢false}
 use mathlib.Core.List.{List, [], _∷_, _++_}
 use Rattle.refusals.specs.First.{Check, check, Verdict, accepted, refused, first}
 use Rattle.refusals.proofs.Laws.{passed}
-use Rattle.summaries.specs.Summaries.{resultOf}
-use Rattle.summaries.proofs.Laws.{head-first, skipped}
+use Rattle.lent_words.specs.Words.{resultOf}
+use Rattle.lent_words.proofs.Laws.{head-first, skipped}
 
 -- What sending or receiving with no room comes to, where the summary is too short: an answer is refusal 4.
 abbrev pub shortOf : Verdict → ℕ

@@ -6,7 +6,7 @@ use mathlib.Core.List.{List, _++_}
 use lib.ListN.{length, drop}
 use Rattle.refusals.specs.Number.{numberOf}
 use Rattle.refusals.specs.declared.Refusal.{Refusal}
-use Rattle.summaries.specs.Summaries.{flagWord, wordBytes}
+use Rattle.lent_words.specs.Words.{flagWord, wordBytes}
 
 pub refusal-unique : (why : Refusal) (place r r′ : ℕ) → r ≡ numberOf why + 256 * place → r′ ≡ numberOf why + 256 * place → r ≡ r′
 refusal-unique why place r r′ p q = p ∙ sym q
