@@ -49,8 +49,9 @@ extern "C" {
 #define HOLZMOTTE_VERSION_PATCH 0
 #define HOLZMOTTE_VERSION "0.8.0"
 
-/* So much stack is enough for a call. This is tested, not proved: measured on x86-64, sending and the closing call take up to
- * 0.7 KB, receiving 0.9 KB and a burst 0.8 KB; an earlier version took 7.5 KB to send and 7.2 KB to receive on 64-bit Arm. */
+/* So much stack is enough for a call. This is tested, not proved: measured on 64-bit Arm, no call takes more than 1.0 KB; measured on x86-64,
+ * sending and the closing call take up to 0.7 KB, receiving 0.9 KB and a burst 0.8 KB (the two of records were not measured there). An
+ * earlier version took 7.5 KB to send on Arm. */
 #define HOLZMOTTE_STACK_BYTES 16384
 
 /* Sizes, in bytes. */
