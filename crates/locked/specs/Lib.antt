@@ -1,1 +1,1 @@
-pub mod InLock
+pub mod Groups

@@ -6,7 +6,7 @@ use lib.ListN.{length}
 use Rattle.blocks.specs.Blocks.{Fours}
 use Rattle.receiving.specs.Loop.{Stretches}
 use Rattle.receiving.proofs.Stretching.{stretch-first, stretch-more}
-use Rattle.locked.specs.InLock.{InLock, ranOf}
+use Rattle.lock_steps.specs.InLock.{InLock, ranOf}
 use Rattle.locked.proofs.blocks_in_lock.Statement.{statement}
 use Rattle.locked.proofs.blocks_in_lock.Tie as tie
 

@@ -1,0 +1,2 @@
+pub mod InLock
+pub mod Unique
