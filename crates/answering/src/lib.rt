@@ -1,16 +1,16 @@
 // The vector of a tested block, once the next block is known.
 use counting::count_vector;
-use decoding::Vector;
-use decoding::put_vector;
 use diagrams::State;
 use receiving::Handed;
 use receiving::Held;
+use vectors::Vector;
+use vectors::put_vector;
 ghost use mathlib.Core.Path.{_≡_};
 ghost use mathlib.Core.Bool.{cond, false};
 ghost use mathlib.Core.List.{_++_};
 ghost use Prim.Native.Nat.{_+_, _≤_};
 ghost use lib.ListN.{length, take, drop};
-ghost use Rattle.decoding.specs.Vector.{vectorBytes};
+ghost use Rattle.vectors.specs.Vector.{vectorBytes};
 ghost use Rattle.receiving.specs.Receive.{letsEnd, stateOf, answerIn, isTerminate};
 ghost use Rattle.receiving.specs.Loop.{testedIn, heldState, heldBytes, heldHanded};
 ghost use Rattle.receiving.specs.Counted.{handOut, HandedWithin};

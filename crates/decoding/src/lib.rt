@@ -1,29 +1,20 @@
 // One received block: its class and its vector.
-ghost use mathlib.Core.Path.{_≡_};
-ghost use mathlib.Core.List.{_++_};
-ghost use Prim.Native.Nat.{_+_, _<_, _≤_};
-ghost use lib.ListN.{length, take, drop};
-ghost use Rattle.block.specs.Block.{errorVector, decodedBy, decoded, good, classBy, classOf, kindIn};
-ghost use Rattle.block.specs.Rows.{row};
-ghost use Rattle.decoding.specs.Vector.{vectorBytes};
-ghost use Rattle.shapes.specs.Shapes.{OfFormat};
-ghost use Rattle.decoding.specs.AtOnce.{DecodedAtOnce};
 use block::Class;
 use block::Edition;
 use block::Kind;
 use block::Reason;
 use characters::four;
+use quick_decoding::quick;
 use shapes::Shape;
 use shapes::shape_of;
-
-// A vector: two words, each a control byte and four lanes, lane 0 lowest. The control bytes stand together, so that no gap of three bytes is
-// copied with it.
-pub struct Vector {
-    pub c0: u8,
-    pub c1: u8,
-    pub d0: u32,
-    pub d1: u32,
-}
+use vectors::Vector;
+use vectors::bytes_of;
+ghost use mathlib.Core.Path.{_≡_};
+ghost use Prim.Native.Nat.{_<_};
+ghost use Rattle.block.specs.Block.{errorVector, decodedBy, decoded, good, classBy, classOf, kindIn};
+ghost use Rattle.block.specs.Rows.{row};
+ghost use Rattle.vectors.specs.Vector.{vectorBytes};
+ghost use Rattle.shapes.specs.Shapes.{OfFormat};
 
 // What a block decodes to: its class, and its vector, the error vector where it is bad.
 pub struct Decoded {
@@ -70,33 +61,6 @@ fn bad(why: Reason) -> Decoded
             d0: 0xfefefefe,
             c1: 15,
             d1: 0xfefefefe,
-        },
-    }
-}
-
-// A block decoded at once, where all its codes are 0: whether that is so, its class and its vector. Those are idles, ordered sets, Starts,
-// Terminates and data, which are the same in both editions.
-pub struct QuickDecoded {
-    pub there: bool,
-    pub class: Class,
-    pub vector: Vector,
-}
-
-// A block with this header and payload, decoded at once.
-pub fn quick(header: u64, payload: u64) -> QuickDecoded
-    ensures { λ r. ⌜ DecodedAtOnce header payload r ⌝ }
-{
-    let s = shape_of(header % 2 * (payload % 16));
-    let x = ((payload >> s.shift) & s.lanes) | s.fixed;
-    let class = s.class;
-    QuickDecoded {
-        there: header == s.header && payload & s.codes == s.first,
-        class: class,
-        vector: Vector {
-            c0: s.c0,
-            d0: (x % 4294967296) as u32,
-            c1: s.c1,
-            d1: (x / 4294967296) as u32,
         },
     }
 }
@@ -194,43 +158,6 @@ pub fn decode(edition: Edition, header: u64, payload: u64) -> Decoded
         };
     }
     bad(Reason::Header)
-}
-
-// The ten bytes of a vector.
-pub fn bytes_of(v: Vector) -> [u8; 10]
-    ensures { λ r. ⌜ r ≡ vectorBytes v ⌝ }
-{
-    [
-        v.c0,
-        (v.d0 % 256) as u8,
-        (v.d0 / 256 % 256) as u8,
-        (v.d0 / 65536 % 256) as u8,
-        (v.d0 / 16777216 % 256) as u8,
-        v.c1,
-        (v.d1 % 256) as u8,
-        (v.d1 / 256 % 256) as u8,
-        (v.d1 / 65536 % 256) as u8,
-        (v.d1 / 16777216 % 256) as u8,
-    ]
-}
-
-// A vector's ten bytes, from byte at on.
-pub fn put_vector(room: &mut [u8], at: usize, v: Vector)
-    requires { ⌜ at + 10 ≤ length (now room) ⌝ }
-    ensures { λ _. ⌜ now (room .exit) ≡ take at (now (room .entry)) ++ (vectorBytes v ++ drop (at + 10) (now (room .entry))) ⌝ }
-{
-    let d0 = v.d0;
-    let d1 = v.d1;
-    room[at] = v.c0;
-    room[at + 1] = (d0 % 256) as u8;
-    room[at + 2] = (d0 / 256 % 256) as u8;
-    room[at + 3] = (d0 / 65536 % 256) as u8;
-    room[at + 4] = (d0 / 16777216 % 256) as u8;
-    room[at + 5] = v.c1;
-    room[at + 6] = (d1 % 256) as u8;
-    room[at + 7] = (d1 / 256 % 256) as u8;
-    room[at + 8] = (d1 / 65536 % 256) as u8;
-    room[at + 9] = (d1 / 16777216 % 256) as u8;
 }
 
 // The class of a block; its vector, the error vector where it is bad, goes into out.

@@ -23,8 +23,8 @@ use Rattle.carrying.specs.Carrying.{Takes}
 use Rattle.carrying.specs.declared.Taken.{Taken}
 use Rattle.carrying.proofs.Laws.{bits-none, takes-skip}
 use Rattle.block.specs.Types.{types}
-use Rattle.decoding.specs.Vector.{vectorBytes}
-use Rattle.decoding.specs.declared.Vector.{Vector}
+use Rattle.vectors.specs.Vector.{vectorBytes}
+use Rattle.vectors.specs.declared.Vector.{Vector}
 use Rattle.decoding.proofs.Rows.{data-answer, no-type, no-header}
 use Rattle.decoding.proofs.Looking.{no-row}
 use Rattle.lock.specs.Lock.{lockFresh, lockOf, slipsOf, countedOf, invalidOf}

@@ -8,8 +8,8 @@ use Rattle.block.specs.Block.{decoded, classOf}
 use Rattle.block.specs.declared.Edition.{Edition}
 use Rattle.block.specs.declared.Class.{Class}
 use Rattle.block.specs.Types.{types}
-use Rattle.decoding.specs.Vector.{vectorBytes}
-use Rattle.decoding.specs.declared.Vector.{Vector}
+use Rattle.vectors.specs.Vector.{vectorBytes}
+use Rattle.vectors.specs.declared.Vector.{Vector}
 use Rattle.diagrams.specs.declared.State.the-variants.{Init}
 use Rattle.receiving.specs.Counted.{reasoned}
 use Rattle.receiving.specs.declared.Counts.{Counts}

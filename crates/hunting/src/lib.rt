@@ -1,17 +1,17 @@
 // Blocks while not locked: their headers are tested, and each is answered as Local Fault. What is counted wants to know of a control block that
 // its type is none, or that it is decoded at once and so not bad. A slip takes no branch of its own. What is left stands with `turn`.
 use blocks::one_at;
-use decoding::Vector;
-use decoding::put_vector;
-use decoding::quick;
 use diagrams::State;
 use lock::Lock;
+use quick_decoding::quick;
 use receiving::Counts;
 use receiving::Link;
 use receiving::Progress;
 use receiving::Receiver;
 use scrambler::descramble;
 use tables::type_row;
+use vectors::Vector;
+use vectors::put_vector;
 ghost use mathlib.Core.Path.{_≡_};
 ghost use mathlib.Core.Bool.{true, false};
 ghost use Prim.Native.Nat.{_+_, _*_, _/_, _%_, _^_, _≤_, _<_};
@@ -19,7 +19,7 @@ ghost use lib.ListN.{length};
 ghost use Rattle.block.specs.Block.{localFaultVector};
 ghost use Rattle.block.specs.declared.Edition.{Edition};
 ghost use Rattle.blocks.specs.Blocks.{headerAt, payloadAt};
-ghost use Rattle.decoding.specs.Vector.{vectorBytes};
+ghost use Rattle.vectors.specs.Vector.{vectorBytes};
 ghost use Rattle.diagrams.specs.declared.State.the-variants.{Init};
 ghost use Rattle.scrambler.specs.Scrambler.{descrambled};
 ghost use Rattle.receiving.specs.Loop.{Under, Turns, Stretches};

@@ -1,7 +1,6 @@
 // The state of a receiver between two calls, document 02, 2/13: the receiver that its numbers mean, and the numbers of a held block.
 use block::Kind;
 use carrying::Carried;
-use decoding::Vector;
 use decoding::good_class;
 use decoding::kind_in;
 use lock::Lock;
@@ -11,6 +10,7 @@ use receiving::Handed;
 use receiving::Held;
 use receiving::Link;
 use receiving::Receiver;
+use vectors::Vector;
 ghost use mathlib.Core.Path.{_≡_};
 ghost use mathlib.Core.Bool.{cond};
 ghost use mathlib.Core.List.{[], _∷_};

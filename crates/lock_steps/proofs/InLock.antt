@@ -21,8 +21,8 @@ use Rattle.block.specs.declared.Class.the-variants as Class
 use Rattle.scrambler.specs.Scrambler.{lineAfter}
 use Rattle.carrying.specs.Carrying.{Takes}
 use Rattle.carrying.specs.declared.Taken.{Taken}
-use Rattle.decoding.specs.Vector.{vectorBytes}
-use Rattle.decoding.specs.declared.Vector.{Vector}
+use Rattle.vectors.specs.Vector.{vectorBytes}
+use Rattle.vectors.specs.declared.Vector.{Vector}
 use Rattle.lock.specs.Lock.{lockOf, slipsOf}
 use Rattle.lock.specs.Rate.{rateOf}
 use Rattle.diagrams.specs.Diagram.{diagramOf, afterIdle, afterData, follows}

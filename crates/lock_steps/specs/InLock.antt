@@ -8,8 +8,8 @@ use lib.ListN.{length}
 use Rattle.block.specs.Block.{decoded, classOf, kindIn, isError}
 use Rattle.block.specs.declared.Class.{Class}
 use Rattle.scrambler.specs.Scrambler.{descrambled, lineAfter}
-use Rattle.decoding.specs.Vector.{vectorBytes}
-use Rattle.decoding.specs.declared.Vector.{Vector}
+use Rattle.vectors.specs.Vector.{vectorBytes}
+use Rattle.vectors.specs.declared.Vector.{Vector}
 use Rattle.lock.specs.Lock.{lockOf}
 use Rattle.lock.specs.Rate.{rateOf}
 use Rattle.diagrams.specs.Diagram.{diagramOf}

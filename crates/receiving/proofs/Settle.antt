@@ -6,8 +6,8 @@ use mathlib.Core.List.{List, [], _∷_, _++_, append-assoc, append-nil, flatten}
 use native.Mathlib.Omega.{arith}
 use lib.ListN.{length, take, drop, length-append, length-drop}
 use lib.Seq.{take-at, drop-at, length-take-le}
-use Rattle.decoding.specs.Vector.{vectorBytes}
-use Rattle.decoding.specs.declared.Vector.{Vector}
+use Rattle.vectors.specs.Vector.{vectorBytes}
+use Rattle.vectors.specs.declared.Vector.{Vector}
 use Rattle.diagrams.specs.declared.State.{State}
 use Rattle.diagrams.specs.declared.State.the-variants.{Init, Control, Data, Terminate, Error, LowPower}
 use Rattle.receiving.specs.Machine.{Tested}

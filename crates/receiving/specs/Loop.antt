@@ -6,7 +6,7 @@ use Prim.Native.Nat.{ℕ, _*_, _≤_, _<_}
 use lib.ListN.{length, take, drop}
 use Rattle.bits.specs.Bits.{lineBits}
 use Rattle.carrying.specs.Carrying.{carriedBits, Sound}
-use Rattle.decoding.specs.Vector.{vectorBytes}
+use Rattle.vectors.specs.Vector.{vectorBytes}
 use Rattle.block.specs.declared.Edition.{Edition}
 use Rattle.diagrams.specs.declared.State.{State}
 use Rattle.diagrams.specs.declared.State.the-variants.{Init}

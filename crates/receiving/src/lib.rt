@@ -3,11 +3,11 @@
 use block::Class;
 use block::Edition;
 use carrying::Carried;
-use decoding::Vector;
 use diagrams::State;
 use lock::Lock;
 use lock::Rate;
 use refusals::Refusal;
+use vectors::Vector;
 
 // The edition in use, and what each tested block updates: lock, error rate, and the last 58 payload bits of the line, the oldest at bit 0.
 pub struct Link {

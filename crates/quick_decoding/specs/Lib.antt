@@ -1,2 +1,1 @@
-pub mod Vector
 pub mod AtOnce

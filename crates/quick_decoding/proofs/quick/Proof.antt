@@ -1,12 +1,12 @@
--- `decoding::quick` meets its contract: what a shape makes of the payload.
+-- `quick_decoding::quick` meets its contract: what a shape makes of the payload.
 use mathlib.Core.Path.{_∙_, sym}
 use mathlib.Core.Logic.{inl, inr}
 use native.Mathlib.Omega.{arith}
 use borrow.Author.Needs.{needs}
 use borrow.Author.Tests.{eqb-true}
 use Rattle.shapes.proofs.Quickly.{made-lt, number-lt, quickly}
-use Rattle.decoding.proofs.quick.Statement.{statement}
-use Rattle.decoding.proofs.quick.Tie as tie
+use Rattle.quick_decoding.proofs.quick.Statement.{statement}
+use Rattle.quick_decoding.proofs.quick.Tie as tie
 
 mul-shape-of : tie.Need-mul-shape-of
 mul-shape-of c = record { fits = omega (arith, number-lt (c .args .header) (c .args .payload)) }

@@ -4,8 +4,8 @@ use mathlib.Core.Bool.{true, false}
 use Prim.Native.Nat.{ℕ}
 use Rattle.block.specs.declared.Edition.{Edition}
 use Rattle.block.specs.Block.{isError, decoded, classOf, kindIn}
-use Rattle.decoding.specs.declared.QuickDecoded.{QuickDecoded}
-use Rattle.decoding.specs.Vector.{vectorBytes}
+use Rattle.quick_decoding.specs.declared.QuickDecoded.{QuickDecoded}
+use Rattle.vectors.specs.Vector.{vectorBytes}
 
 -- where it is there: its class and vector, in each edition, and it is not bad
 abbrev pub DecodedAtOnce : ℕ → ℕ → QuickDecoded → Type 0

@@ -1,11 +1,11 @@
--- `decoding::put_vector` meets its contract. Assumes nothing.
+-- `vectors::put_vector` meets its contract. Assumes nothing.
 use lib.ListN.{length-set}
 use native.Mathlib.Omega.{arith}
 use Prim.Native.Nat.{_/_, _%_}
-use Rattle.decoding.proofs.Put.{put-ten}
+use Rattle.vectors.proofs.Put.{put-ten}
 use borrow.Author.Needs.{needs}
-use Rattle.decoding.proofs.put_vector.Statement.{statement}
-use Rattle.decoding.proofs.put_vector.Tie as tie
+use Rattle.vectors.proofs.put_vector.Statement.{statement}
+use Rattle.vectors.proofs.put_vector.Tie as tie
 
 slice-write-room : tie.Need-slice-write-room
 slice-write-room c = search needs
