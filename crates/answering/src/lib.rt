@@ -22,7 +22,7 @@ pub fn lets_end(next: Held) -> bool
     let on = next.on;
     let class = next.class;
     if on {
-        return diagrams::may_follow(decoding::kind_in(class));
+        return diagram_steps::may_follow(decoding::kind_in(class));
     }
     false
 }
@@ -34,7 +34,7 @@ fn state_step(s: State, h: Held, ends: bool) -> State
     let on = h.on;
     let class = h.class;
     if on {
-        return diagrams::diagram_step(s, decoding::kind_in(class), ends);
+        return diagram_steps::diagram_step(s, decoding::kind_in(class), ends);
     }
     State::Init
 }

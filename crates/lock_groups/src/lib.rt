@@ -1,7 +1,7 @@
 // Four blocks in lock: four data blocks, or four of idles, at once, any others that are decoded at once one after the other.
 use blocks::Four;
+use diagram_steps::diagram_step;
 use diagrams::State;
-use diagrams::diagram_step;
 use line::Block;
 use lock_steps::Run;
 use lock_steps::data_step;

@@ -2,8 +2,8 @@
 // 'Scrambler'.
 use block::Coded;
 use block::Kind;
+use diagram_steps::diagram_step;
 use diagrams::State;
-use diagrams::diagram_step;
 use line::Block;
 use scrambler::Scrambled;
 use scrambler::scramble;

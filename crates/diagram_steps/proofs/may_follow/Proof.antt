@@ -1,7 +1,7 @@
 use Rattle.diagrams.specs.Diagram.{follows}
 use borrow.Author.Needs.{needs}
-use Rattle.diagrams.proofs.may_follow.Statement.{statement}
-use Rattle.diagrams.proofs.may_follow.Tie as tie
+use Rattle.diagram_steps.proofs.may_follow.Statement.{statement}
+use Rattle.diagram_steps.proofs.may_follow.Tie as tie
 
 enum-told : tie.Need-enum-told
 enum-told c = search needs

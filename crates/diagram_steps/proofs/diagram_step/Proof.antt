@@ -1,15 +1,15 @@
 use mathlib.Core.Path.{_≡_, refl, sym, _∙_, ap, ap₂}
 use mathlib.Core.Bool.{Bool, cond, _&&_}
 use borrow.Author.Needs.{needs}
 use Rattle.diagrams.proofs.Laws.{by-tests, never-ends}
 use Rattle.diagrams.specs.declared.State.{State}
 use Rattle.diagrams.specs.declared.State.the-variants.{Control, Data, Terminate, Error, LowPower}
 use Rattle.diagrams.specs.Diagram.{diagramOf}
 use Rattle.diagrams.specs.Parts.{goesOn, byTests}
 use Rattle.block.specs.declared.Kind.{Kind}
 use Rattle.block.specs.declared.Kind.the-variants.{D, C, S, T, LI, E}
-use Rattle.diagrams.proofs.diagram_step.Statement.{statement}
-use Rattle.diagrams.proofs.diagram_step.Tie as tie
+use Rattle.diagram_steps.proofs.diagram_step.Statement.{statement}
+use Rattle.diagram_steps.proofs.diagram_step.Tie as tie
 
 goes-on-requires : tie.Need-goes-on-requires
 goes-on-requires c κs = search needs
