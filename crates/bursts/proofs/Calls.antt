@@ -27,12 +27,14 @@ use Rattle.kept_state.specs.declared.State.{State}
 use Rattle.bursts.specs.declared.Added.{Added}
 use Rattle.kept_state.specs.Meaning.{states, linkMeant, feedMeant}
 use Rattle.kept_state.specs.Coded.{WithinLimits}
-use Rattle.judging.specs.Judging.{badState, burstVerdict}
+use Rattle.bad_states.specs.BadStates.{badState}
+use Rattle.judging.specs.Judging.{burstVerdict}
 use Rattle.bursts.specs.Burst.{stateFresh, begun, beginAnswer, settledFrom, burstBytes, burstState, closeJudged, closeAdded, closeState, summaryIn, Called, refuses, atStart, burstCall, closeCall, Replies}
 use Rattle.bursts.specs.Burst as Burst
 use Rattle.bursts.specs.Joined.{plusAdded, addedIn, Call, burst, close, callOf, Made, Follow, takenBy, givenBy, stateAfterCalls, lineAfterCalls, bytesAfterCalls, addedAfterCalls, Whole, InBursts, AsOne, NeverBad, Accepts}
-use Rattle.judging.proofs.Orderly.{Orderly, orderly}
-use Rattle.judging.proofs.Checks.{passes-ten, passed-all, all-passed}
+use Rattle.bad_states.proofs.Orderly.{Orderly, orderly}
+use Rattle.bad_states.proofs.Limits.{passes-ten}
+use Rattle.judging.proofs.Checks.{passed-all, all-passed}
 use Rattle.bursts.proofs.Going.{bytes-tens, close-tens}
 use Rattle.bursts.proofs.Sums.{sums, added-assoc, added-none, added-first, burst-sums, close-sums}
 use Rattle.bursts.proofs.Reached.{At, σ, at-first, at-few, at-next, at-count, at-handed, at-bytes, at-summary}

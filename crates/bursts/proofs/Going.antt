@@ -38,7 +38,8 @@ use Rattle.bursts.specs.Burst.{runFrom, settledFrom, burstBytes, burstAd
 use Rattle.kept_state.specs.Coded.{WithinLimits, Means}
 use Rattle.advancing.specs.Coded.{SumsFit, progressed, closedWith}
 use Rattle.kept_state.proofs.Storing.{bits-count, held-tens, few-in}
-use Rattle.judging.proofs.Checks.{within-limits, Passed, passed-all}
+use Rattle.bad_states.proofs.Limits.{within-limits}
+use Rattle.judging.proofs.Checks.{Passed, passed-all}
 use Rattle.kept_state.proofs.Coding.{carried-is, have-is}
 
 -- whether a block is held, by the list

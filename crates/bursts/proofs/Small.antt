@@ -32,7 +32,7 @@ use Rattle.kept_state.specs.Meaning.{feedMeant, diagramMeant, heldKindNumber, f
 use Rattle.judging.specs.Judging.{burstVerdict}
 use Rattle.bursts.specs.Burst.{stateFresh, runFrom, settledFrom, burstAdded, burstState, closeJudged, closeAdded, closeState}
 use Rattle.kept_state.proofs.Storing.{Storable}
-use Rattle.judging.proofs.Checks.{within-limits}
+use Rattle.bad_states.proofs.Limits.{within-limits}
 use Rattle.bursts.proofs.Going.{passed, fine, few-settled, tested-few, close-passed, close-few}
 use Rattle.bursts.proofs.Reached.{end-stands, blocks-stored}
 

@@ -16,7 +16,8 @@ use Rattle.receiving.specs.declared.Received.{Received}
 use Rattle.kept_state.specs.declared.State.{State}
 use Rattle.bursts.specs.declared.Added.{Added}
 use Rattle.bursts.specs.declared.Reply.{Reply}
-use Rattle.judging.specs.Judging.{badState, roomFor, burstVerdict}
+use Rattle.bad_states.specs.BadStates.{badState}
+use Rattle.judging.specs.Judging.{roomFor, burstVerdict}
 use Rattle.bursts.specs.Burst.{stateFresh, begun, beginAnswer, burstBytes, burstAdded, burstState, closeJudged, closeAdded, closeState, summaryIn, Called, atStart, burstCall, closeCall, Replies}
 
 -- what two calls added

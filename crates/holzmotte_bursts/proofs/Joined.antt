@@ -23,7 +23,8 @@ use Rattle.slices.proofs.Totals.{twice-in-bytes}
 use Rattle.kept_state.specs.declared.State.{State}
 use Rattle.bursts.specs.declared.Added.{Added}
 use Rattle.bursts.specs.declared.Reply.{Reply}
-use Rattle.judging.specs.Judging.{badState, burstVerdict}
+use Rattle.bad_states.specs.BadStates.{badState}
+use Rattle.judging.specs.Judging.{burstVerdict}
 use Rattle.bursts.specs.Burst.{stateFresh, begun, beginAnswer, burstBytes, burstAdded, burstState, closeJudged, closeAdded, closeState, summaryIn, atStart, burstCall, closeCall, Replies}
 use Rattle.bursts.specs.Joined.{plusAdded, noneAdded, addedIn, callOf}
 use Rattle.bursts.specs.Joined as ByValue

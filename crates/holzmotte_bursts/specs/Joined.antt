@@ -7,7 +7,7 @@ use mathlib.Core.List.{List, [], _∷_, _++_}
 use lib.ListN.{take}
 use lib.Dec.{eqb}
 use Rattle.slices.specs.Slices.{receiveLength}
-use Rattle.judging.specs.Judging.{badState}
+use Rattle.bad_states.specs.BadStates.{badState}
 use Rattle.bursts.specs.Burst.{atStart}
 use Rattle.stored.specs.Stored.{stateIn}
 use Rattle.holzmotte.specs.Boundary.{ReceivesThroughC}

@@ -1,3 +1,2 @@
-pub mod Orderly
 pub mod Checks
 pub mod Unique

@@ -4,7 +4,8 @@ use mathlib.Core.Bool.{true, false}
 use denote.Ref.{now}
 use lib.ListN.{length}
 use Rattle.judging.specs.Coded.{verdictSaid}
-use Rattle.judging.proofs.Checks.{within-limits, passed-all}
+use Rattle.bad_states.proofs.Limits.{within-limits}
+use Rattle.judging.proofs.Checks.{passed-all}
 use Rattle.bursts.proofs.Going.{either-refused, which-passes, which-replies}
 use borrow.Author.Needs.{needs}
 use Rattle.bursts.proofs.continued.Statement.{statement}

@@ -2,7 +2,8 @@
 use mathlib.Core.Path.{sym, _∙_}
 use native.Mathlib.Omega.{arith}
 use borrow.Author.Needs.{needs}
-use Rattle.judging.proofs.Checks.{within-limits, thirteen, nine, ten, one, four, through}
+use Rattle.bad_states.proofs.Limits.{within-limits}
+use Rattle.judging.proofs.Checks.{thirteen, nine, ten, one, four, through}
 use Rattle.judging.proofs.judge.Statement.{statement}
 use Rattle.judging.proofs.judge.Tie as tie
 

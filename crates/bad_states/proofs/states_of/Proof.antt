@@ -1,8 +1,8 @@
--- `judging::states_of` meets its contract. By the edition. Assumes nothing.
+-- `bad_states::states_of` meets its contract. By the edition. Assumes nothing.
 use borrow.Author.Tests.{eq-eqb, ne-eqb}
 use Rattle.block.specs.Block.{editionOf}
-use Rattle.judging.proofs.states_of.Statement.{statement}
-use Rattle.judging.proofs.states_of.Tie as tie
+use Rattle.bad_states.proofs.states_of.Statement.{statement}
+use Rattle.bad_states.proofs.states_of.Tie as tie
 
 returns : tie.Need-returns
 unfolding editionOf

@@ -1,12 +1,12 @@
--- `judging::out_of_range` meets its contract. Each test in turn. Assumes nothing.
+-- `bad_states::out_of_range` meets its contract. Each test in turn. Assumes nothing.
 use mathlib.Core.Path.{sym, ap, _∙_}
 use Prim.Native.Nat.{ℕ}
 use lib.Dec.{leb}
 use borrow.Author.Needs.{needs}
 use borrow.Author.Tests.{lt-ltb, le-ltb, le-leb, lt-leb}
-use Rattle.judging.proofs.Checks.{or-false}
-use Rattle.judging.proofs.out_of_range.Statement.{statement}
-use Rattle.judging.proofs.out_of_range.Tie as tie
+use Rattle.bad_states.proofs.Limits.{or-false}
+use Rattle.bad_states.proofs.out_of_range.Statement.{statement}
+use Rattle.bad_states.proofs.out_of_range.Tie as tie
 
 returns : tie.Need-returns
 returns c = rw (le-leb _ _ (c .if1 .taken))

@@ -1,9 +1,9 @@
--- `judging::bad_state` meets its contract. Its four parts in turn. Assumes nothing.
+-- `bad_states::bad_state` meets its contract. Its four parts in turn. Assumes nothing.
 use mathlib.Core.Path.{sym, _∙_}
 use borrow.Author.Needs.{needs}
-use Rattle.judging.specs.Judging.{badState}
-use Rattle.judging.proofs.bad_state.Statement.{statement}
-use Rattle.judging.proofs.bad_state.Tie as tie
+use Rattle.bad_states.specs.BadStates.{badState}
+use Rattle.bad_states.proofs.bad_state.Statement.{statement}
+use Rattle.bad_states.proofs.bad_state.Tie as tie
 
 over-counts-requires : tie.Need-over-counts-requires
 over-counts-requires c κs = search needs

@@ -1,9 +1,9 @@
--- `judging::over_summary` meets its contract. Each test in turn. Assumes nothing.
+-- `bad_states::over_summary` meets its contract. Each test in turn. Assumes nothing.
 use mathlib.Core.Path.{sym}
 use borrow.Author.Tests.{lt-ltb, le-ltb}
-use Rattle.judging.proofs.Checks.{or-false}
-use Rattle.judging.proofs.over_summary.Statement.{statement}
-use Rattle.judging.proofs.over_summary.Tie as tie
+use Rattle.bad_states.proofs.Limits.{or-false}
+use Rattle.bad_states.proofs.over_summary.Statement.{statement}
+use Rattle.bad_states.proofs.over_summary.Tie as tie
 
 returns : tie.Need-returns
 returns c = rw (lt-ltb _ _ (c .if1 .taken))
