@@ -11,7 +11,7 @@ use Rattle.refusals.specs.First.{Check, check, Verdict, accepted, refused, firs
 use Rattle.refusals.proofs.Outcome.{outcome, outcome-in-room}
 use Rattle.records.specs.Record.{bodyLimit, readChecks, Answer, whole, end, readAt}
 use Rattle.records.specs.Record as Record
-use Rattle.record_writing.specs.Writing.{recordOf, writeChecks, writtenRoom}
+use Rattle.record_writing.specs.Writing.{recordOf, writeChecks}
 use Rattle.record_writing.proofs.Demand1.{room-by-record}
 use Rattle.lent_words.specs.Words.{resultOf, wordBytes, tooShort, summaryWith}
 use Rattle.lent_words.proofs.Laws.{zero-words}

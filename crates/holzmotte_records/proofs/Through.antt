@@ -10,7 +10,7 @@ use lib.Dec.{leb}
 use Rattle.refusals.specs.Number.{numberOf}
 use Rattle.refusals.specs.declared.Refusal.{Refusal}
 use Rattle.refusals.specs.declared.Refusal.the-variants.{TooMuch, NotGroups, StartState, Room, ControlByte, Cut, LongBody, RecordKind, Closed, BadState, UnknownEdition}
-use Rattle.refusals.specs.First.{Check, check, Verdict, accepted, refused, first, byVerdict}
+use Rattle.refusals.specs.First.{check, Verdict, accepted, refused, first, byVerdict}
 use Rattle.refusals.proofs.Laws.{one-more}
 use Rattle.records.specs.Record.{bodyLimit, readChecks, Answer, whole, end, readAt}
 use Rattle.records.specs.Record as Record
@@ -34,9 +34,6 @@ told-by (refused number place) kind start len next = refl
 
 -- the reader's checks, then the summary's
 module _ (file : List ℕ) (place summary : ℕ) where
-  last : Verdict
-  last = cond (tooShort 8 5 summary) (refused 4 0) accepted
-
   by-end : (b : Bool) (kind start len next : ℕ)
       → first (cond b [] (readChecks bodyLimit file place))
       ≡ verdictOf (cond b end (byVerdict (first (readChecks bodyLimit file place)) (whole kind start len next) Record.refused))

@@ -1,14 +1,14 @@
 -- The C boundary of capture records, document 02, 7/13: reading one and writing one over byte slices.
 use Prim.Native.Nat.{ℕ, _%_, _^_}
 use mathlib.Core.Path.{_≡_}
-use mathlib.Core.Bool.{cond, not}
+use mathlib.Core.Bool.{cond}
 use mathlib.Core.List.{List, [], _∷_, _++_}
 use lib.ListN.{length, replicate}
-use lib.Dec.{leb, eqb}
+use lib.Dec.{leb}
 use Rattle.refusals.specs.First.{Check, check, first}
 use Rattle.records.specs.Record.{bodyLimit, readChecks, Answer, whole, end, refused, readAt}
 use Rattle.record_writing.specs.Writing.{limitKept, writeChecks, writtenRoom}
-use Rattle.lent_words.specs.Words.{resultOf, tooShort, summaryWith}
+use Rattle.lent_words.specs.Words.{resultOf, tooShort, summaryWith, yes}
 
 -- ---- reading: 6 (head), 7, 8, 6 (body), 2 (kind 1 only), all with the head's place, then 4 for the summary
 
@@ -31,10 +31,11 @@ abbrev pub ReadsThroughC : (file : List ℕ) (place : ℕ) (summary : List ℕ) 
 ReadsThroughC file place summary r summary′ =
     (r ≡ readingResult file place (length summary)) × (summary′ ≡ summaryWith 5 (recordWords (readAt bodyLimit file place)) summary)
 
--- ---- writing: 7, 8, 2 (kind 1), 4, with place 0; `wide` is a no where it is 0, and else a yes
+-- ---- writing: 7, 8, 2 (kind 1), 4, with place 0
 
+-- by the yes or no of the call
 abbrev pub limitFor : (wide : ℕ) → ℕ
-limitFor wide = limitKept (not (eqb wide 0))
+limitFor wide = limitKept (yes wide)
 
 -- the promise: `holzmotte_write_record` was lent `room`, returned `r` and left `room′`
 abbrev pub WritesThroughC : (kind : ℕ) (body : List ℕ) (wide : ℕ) (room : List ℕ) (r : ℕ) (room′ : List ℕ) → Type 0

@@ -10,8 +10,8 @@ use lib.ListN.{length, getD, take, drop, replicate, length-append, replicate-app
 use lib.Seq.{take-at, drop-at, drop-drop, take-suc, take-all, length-take-le}
 use borrow.Author.Tests.{lt-ltb, le-ltb}
 use Rattle.bits.specs.Bits.{bit, number, streamBit, lineBit, cut}
-use Rattle.bits.proofs.Laws.{length-cut, cut-same, bit-below, bit-above, bit-lt, is-number, number-same, stream-cut}
-use Rattle.bits.proofs.Lists.{cut-add, stream-left, stream-right}
+use Rattle.bits.proofs.Laws.{length-cut, bit-lt, is-number, number-same, stream-cut}
+use Rattle.bits.proofs.Lists.{stream-left, stream-right}
 use Rattle.refusals.specs.First.{Check, check, Verdict, accepted, refused, first, byVerdict}
 use Rattle.lent_words.specs.Words.{resultOf, oneMoreAfter, wordAt, wordBytes, tooShort, summaryWith}
 

@@ -1,10 +1,10 @@
 -- What every call through C answers and is lent, document 01, 'What the probe's library covers': "Through C the summary goes into a lent slice
 -- of its own, which takes the zeros of a refusal; one too short for it is refusal 4 and stays unchanged."
 use Prim.Native.Nat.{ℕ, _+_, _*_}
-use mathlib.Core.Bool.{Bool, cond}
+use mathlib.Core.Bool.{Bool, cond, not}
 use mathlib.Core.List.{List, [], _∷_, _++_}
 use lib.ListN.{length, take, drop}
-use lib.Dec.{ltb}
+use lib.Dec.{ltb, eqb}
 use Rattle.bits.specs.Bits.{bit, number, lineBit, cut}
 use Rattle.refusals.specs.First.{Check, Verdict, accepted, refused}
 
@@ -38,3 +38,7 @@ summaryWith n words summary = cond (tooShort 8 n (length summary)) summary (word
 -- 1 for true, 0 for false
 abbrev pub flagWord : Bool → ℕ
 flagWord b = cond b 1 0
+
+-- any number but 0 is a yes
+abbrev pub yes : ℕ → Bool
+yes n = not (eqb n 0)

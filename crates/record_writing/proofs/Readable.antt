@@ -1,16 +1,16 @@
 -- What was written is read back, proved over the definitions. Assumes nothing.
 use Prim.Native.Nat.{ℕ, _+_, _*_, _/_, _%_, _-_, _≤_}
-use mathlib.Core.Path.{_≡_, refl, sym, ap, _∙_}
+use mathlib.Core.Path.{_≡_, refl, ap, _∙_}
 use mathlib.Core.Bool.{false}
 use mathlib.Core.List.{List, _++_}
 use native.Mathlib.Omega.{arith}
-use lib.ListN.{length, take, drop, length-append}
+use lib.ListN.{length, drop, length-append}
 use lib.Seq.{take-append-seam}
 use borrow.Author.Tests.{ltb-false, le-ltb, le-leb, lt-leb}
 use Rattle.refusals.specs.First.{Verdict, accepted, refused, first, byVerdict}
 use Rattle.refusals.proofs.Laws.{passed}
 use Rattle.records.specs.Record.{unknownKind, notGroups, whole, readChecks, readAt, bodyOf}
-use Rattle.record_writing.specs.Writing.{writeChecks, recordOf, WriteAnswer, wrote, unwritten, writeAnswer, writtenRoom}
+use Rattle.record_writing.specs.Writing.{writeChecks, recordOf, wrote, unwritten, writeAnswer, writtenRoom}
 use Rattle.record_writing.specs.Readable.{Readable}
 
 -- A number by its two bytes.

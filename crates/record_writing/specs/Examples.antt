@@ -11,10 +11,10 @@ unfolding writtenRoom writeChecks first
 written = refl
 
 -- a longer body is written by a yes and refused by a no
-yes : writeAnswer (limitKept true) 2 (replicate 4093 1) (replicate 4097 0) ≡ wrote 4097
+longerByYes : writeAnswer (limitKept true) 2 (replicate 4093 1) (replicate 4097 0) ≡ wrote 4097
 unfolding writeAnswer writeChecks first
-yes = refl
+longerByYes = refl
 
-no : writeAnswer (limitKept false) 2 (replicate 4093 1) (replicate 4097 0) ≡ unwritten 7 0
+longerByNo : writeAnswer (limitKept false) 2 (replicate 4093 1) (replicate 4097 0) ≡ unwritten 7 0
 unfolding writeAnswer writeChecks first
-no = refl
+longerByNo = refl

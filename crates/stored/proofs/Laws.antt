@@ -10,10 +10,10 @@ use lib.Seq.{getD-set-same, getD-set-other}
 use Rattle.bits.specs.Bits.{number, lineBit}
 use Rattle.bits.proofs.Laws.{Words, number-same}
 use Rattle.bits.proofs.Lists.{words-lt}
-use Rattle.lent_words.specs.Words.{wordAt, wordBytes, flagWord}
+use Rattle.lent_words.specs.Words.{wordAt, wordBytes, flagWord, yes}
 use Rattle.lent_words.proofs.Laws.{word-back}
 use Rattle.kept_state.specs.declared.State.{State}
-use Rattle.stored.specs.Stored.{stateWords, yes, stateBy, stateIn, storedIn}
+use Rattle.stored.specs.Stored.{stateWords, stateBy, stateIn, storedIn}
 
 -- a state depends on its words alone
 pub state-same : (f g : ℕ → ℕ) → ((i : ℕ) → i < 29 → f i ≡ g i) → stateBy f ≡ stateBy g

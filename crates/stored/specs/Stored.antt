@@ -1,11 +1,9 @@
 -- A state of a line that arrives in bursts, in lent bytes: document 01, "A state or record that a later request passes through C is a lent
 -- slice too". It is 29 words of 64 bits.
 use Prim.Native.Nat.{ℕ, _*_}
-use mathlib.Core.Bool.{Bool, not}
 use mathlib.Core.List.{List, [], _∷_, _++_}
 use lib.ListN.{drop}
-use lib.Dec.{eqb}
-use Rattle.lent_words.specs.Words.{wordAt, wordBytes, flagWord}
+use Rattle.lent_words.specs.Words.{wordAt, wordBytes, flagWord, yes}
 use Rattle.kept_state.specs.declared.State.{State}
 
 abbrev pub stateLength : ℕ
@@ -27,10 +25,6 @@ stateWords s =
     ∷ s .counts .headers ∷ s .counts .types ∷ s .counts .codes ∷ s .counts .sets
     ∷ s .handed .begun ∷ s .handed .replaced
     ∷ s .edition ∷ []
-
--- any number but 0 is a yes
-abbrev pub yes : ℕ → Bool
-yes n = not (eqb n 0)
 
 -- the state of these words
 abbrev pub stateBy : (ℕ → ℕ) → State

@@ -12,7 +12,8 @@ use receiving::Handed;
 ghost use mathlib.Core.Path.{_≡_};
 ghost use Prim.Native.Nat.{_≤_};
 ghost use lib.ListN.{length, getD};
-ghost use Rattle.stored.specs.Stored.{stateWords, yes, stateBy, stateIn, storedIn};
+ghost use Rattle.lent_words.specs.Words.{yes};
+ghost use Rattle.stored.specs.Stored.{stateWords, stateBy, stateIn, storedIn};
 
 // Any number but 0 is a yes.
 fn is_yes(n: u64) -> bool
