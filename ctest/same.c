@@ -182,15 +182,28 @@ static void round_of(size_t count, size_t longest_burst, struct sum *sent, struc
     bursts(in_bursts, edition, from, bytes, longest_burst);
 }
 
+/* A record written, at times refused, and what is read at a place of it; at times the room is a byte short, or the file. */
+static void records(struct sum *sum)
+{
+    size_t bytes = below(4) ? below(5000) : below(70000), room = HOLZMOTTE_RECORD_BYTES(bytes) - (below(8) == 0);
+    add_number(sum, holzmotte_write_record(below(4), line, bytes, below(3), answers, room));
+    add(sum, answers, room);
+    add_number(sum, holzmotte_read_record(answers, room, below(4) ? 0 : below(12), summary, HOLZMOTTE_READ_SUMMARY_BYTES));
+    add(sum, summary, HOLZMOTTE_READ_SUMMARY_BYTES);
+}
+
 void run(void)
 {
     uint64_t none = 0xcbf29ce484222325;
-    struct sum sent = {"send    ", none}, received = {"receive ", none}, in_bursts = {"bursts  ", none};
+    struct sum sent = {"send    ", none}, received = {"receive ", none}, in_bursts = {"bursts  ", none}, recorded = {"records ", none};
     round_of(HOLZMOTTE_MAX_VECTOR_BYTES / 10, 3000, &sent, &received, &in_bursts);
     for (size_t round = 0; round < ROUNDS; round++)
         round_of(4 + 4 * below(LONGEST / 4), 40, &sent, &received, &in_bursts);
+    for (size_t round = 0; round < ROUNDS; round++)
+        records(&recorded);
     tell(&sent);
     tell(&received);
     tell(&in_bursts);
+    tell(&recorded);
     end();
 }
