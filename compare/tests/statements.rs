@@ -1,10 +1,12 @@
-//! The demands, and what is said of the old edition, claim no more than is so: for each must-fail edit of one of their statements a run of the
-//! library for which the edited statement is untrue. The tests have the edits' names.
+//! The demands, and what is said of the old edition and of old readers, claim no more than is so: for each must-fail edit of one of their
+//! statements a run of the library, of old readers one of the second program, for which the edited statement is untrue. The tests have the
+//! edits' names.
 use std::fs::{read_dir, read_to_string};
 
 use compare::library::{receive, received, send, sent, word, words, COUNTERS_BYTES, RECEIVE_SUMMARY_BYTES};
 use compare::lines::flip;
 use compare::lists::{end, idle, low_power, start};
+use compare::records::{old_read, record};
 use compare::reference::edition::Edition;
 use compare::reference::vector::{characters, vector, Character, Vector, ERROR, LOCAL_FAULT};
 
@@ -46,8 +48,9 @@ fn control(vector: &Vector) -> [Option<u8>; 8] {
     })
 }
 
-/// The files that state the demands, and what is said of the old edition.
-const STATEMENTS: [&str; 7] = ["Outcome", "Demand1", "Words", "Demand2", "Damage", "Demand3", "Unchanged"];
+/// The files that state the demands, and what is said of the old edition and of old readers.
+const STATEMENTS: [&str; 9] =
+    ["Outcome", "Demand1", "Words", "Demand2", "Damage", "Demand3", "Unchanged", "OldReader", "Readable"];
 
 /// None of those edits is without its test.
 #[test]
@@ -198,4 +201,11 @@ fn received_in_the_newer() {
     let (line, _) = sent(Edition::New, &list(65, &[low_power()]).concat(), 0);
     let answer = |edition| received(edition, &line).0[650..660].to_vec();
     assert_eq!([answer(Edition::Old), answer(Edition::New)], [ERROR.to_vec(), low_power().to_vec()]);
+}
+
+// ---- 7/13
+
+#[test]
+fn old_reader_ends() {
+    assert_eq!(old_read(&record(2, &[0; 4_093]), 0).0, 7);
 }
