@@ -49,9 +49,10 @@ extern "C" {
 #define HOLZMOTTE_VERSION_PATCH 0
 #define HOLZMOTTE_VERSION "0.8.0"
 
-/* So much stack is enough for a call. This is tested, not proved: measured on 64-bit Arm, no call takes more than 1.0 KB; measured on x86-64,
- * sending and the closing call take up to 0.7 KB, receiving 0.9 KB and a burst 0.8 KB (the two of records were not measured there). An
- * earlier version took 7.5 KB to send on Arm. */
+/* So much stack is enough for a call. This is tested, not proved. Measured on 64-bit Arm: to send takes up to 1.0 KB, to receive 0.7, a
+ * burst 0.6, to close 0.5, to begin and to write a record 0.1, to read one 0.1 (1.0 in the first call of the test). On x86-64: to send and
+ * to close 0.7 KB, to receive 0.9, a burst 0.8; the two of records were not measured there. The project's two programs, which hold a
+ * whole record and what they gather, take up to 239 KB. */
 #define HOLZMOTTE_STACK_BYTES 16384
 
 /* Sizes, in bytes. */
@@ -452,8 +453,8 @@ uint64_t holzmotte_close(uint8_t *state, size_t state_len, uint8_t *vectors, siz
  *
  * The limits. A body has at most 65,472 bytes. A reader of before that takes at most 4,092: a longer body it refuses with 7, and it shows
  * no part of it and nothing of what follows it; up to there it finds what a reader of now does. So a writer says which limit it keeps.
- * What it wrote within a limit is read back by a reader with that limit. This is proved. The project's two programs read records by
- * the new limit and write them by the old one. */
+ * What it wrote within a limit is read back, wherever it stands in a file, by a reader with that limit. This is proved. The project's
+ * two programs read records by the new limit and write them by the old one. */
 enum holzmotte_record_kind {
     HOLZMOTTE_KIND_VECTORS = 1, /* vectors, a multiple of 40 bytes; the longest body has 65,440 */
     HOLZMOTTE_KIND_LINE = 2     /* line bytes */

@@ -16,7 +16,8 @@ use Rattle.block.specs.declared.Class.{Class}
 use Rattle.block.specs.declared.Class.the-variants as Class
 use Rattle.block.specs.Block.{Format, noFormat, dataBlock, controlBlocks, byType, kindFor, vectorOf, kindBy, kindOf, some, says, good, classBy, classOf, kindIn}
 use Rattle.block.specs.Rows.{row, rowOf, indexOf}
-use Rattle.block.proofs.Tests.{all, by-test}
+use Rattle.refusals.proofs.Laws.{by-test}
+use Rattle.block.proofs.Tests.{all}
 use Rattle.block.proofs.Formats.{sound, of-type, by-index}
 use Rattle.block.proofs.Reading.{Below, when-valid, when-not, data-below}
 use Rattle.block.proofs.Telling.{Tells, AllTell, vector-tells}

@@ -1,5 +1,5 @@
 -- Tests that are computed over a whole table or list, and what then holds at one place.
-use mathlib.Core.Path.{_≡_, refl, _∙_, subst, sym}
+use mathlib.Core.Path.{_≡_, _∙_, subst, sym}
 use mathlib.Core.Bool.{Bool, true, false, _&&_, _||_}
 use mathlib.Core.List.{List, [], _∷_}
 use Prim.Native.Nat.{ℕ, zero, suc, _+_, _<_}
@@ -36,11 +36,6 @@ not-leb {a} {b} h t = let w = leb→le b a t in omega arith
 
 pub is-true : {b : Bool} → b ≡ true → T b
 is-true e = subst T (sym e) tt
-
--- by the two cases of a test
-pub by-test {ℓ} : {P : Type ℓ} (b : Bool) → (b ≡ true → P) → (b ≡ false → P) → P
-by-test true f g = f refl
-by-test false f g = g refl
 
 -- ---- a list of tests, each of which passes
 

@@ -8,10 +8,10 @@ use lib.ListN.{length}
 use borrow.Author.Tests.{eq-eqb, ne-eqb}
 use Rattle.refusals.specs.First.{checkAt, Verdict, accepted, first, byVerdict}
 use Rattle.refusals.specs.First as First
-use Rattle.refusals.proofs.Laws.{one-more}
+use Rattle.refusals.proofs.Laws.{one-more, by-test}
 use Rattle.records.specs.Record.{bodyLimit, twoAt, readChecks, readAt, bodyOf}
 use Rattle.records.specs.Record as Record
-use Rattle.records.proofs.Laws.{by-test, body-is}
+use Rattle.records.proofs.Laws.{body-is}
 use Rattle.captures.specs.Captures.{Recorded, body, end, refused, recordChecks, bodyAt, bodyOfKind, answering, leaving}
 
 -- ---- by what the reader finds

@@ -10,7 +10,7 @@ use lib.ListN.{length, getD, take, drop, length-append, length-drop, take-append
 use lib.Seq.{take-suc, length-take-le, drop-drop, take-all}
 use lib.Dec.{ltb}
 use borrow.Author.Tests.{lt-ltb, le-ltb, ltb-true, ltb-false}
-use Rattle.records.proofs.Laws.{by-test}
+use Rattle.refusals.proofs.Laws.{by-test}
 use Rattle.record_writing.specs.Writing.{recordOf}
 use Rattle.display.specs.Display.{ascii, hexDigit, hexDigits, hexLine, hexLines, pieces, decimalBy, decimal, numberLine, flag, summaryLines, refusedLine, lineRecords}
 

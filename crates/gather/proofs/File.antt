@@ -13,7 +13,8 @@ use borrow.Author.Tests.{ltb-true, ltb-false, leb-true, leb-false, lt-ltb, le-lt
 use Rattle.refusals.specs.First.{accepted, first, byVerdict}
 use Rattle.refusals.specs.First.{refused as refuses}
 use Rattle.records.specs.Record.{Answer, whole, end, refused, twoAt, unknownKind, notGroups, readChecks, readAt, bodyOf, wantedOf}
-use Rattle.records.proofs.Laws.{by-test, inside}
+use Rattle.refusals.proofs.Laws.{by-test}
+use Rattle.records.proofs.Laws.{inside}
 use Rattle.gather.specs.Gather.{Gathered, more, done, stop, failed, judged, next, RecordRead, window, failure, nextRead}
 use Rattle.gather.specs.File.{placeAfter, gathering, gatheredFrom, recordWindow, windows, gatheredAfter, Going, on, IsWindow, InTurn, bytesRead, Concluded, by-end, by-refusal}
 

@@ -12,7 +12,8 @@ use Rattle.refusals.specs.First.{first}
 use Rattle.putting.specs.Overlaid.{overlaid}
 use Rattle.putting.proofs.Laws.{overlaid-on}
 use Rattle.records.specs.Record.{Answer, whole, end, refused, readAt, bodyOf}
-use Rattle.records.proofs.Laws.{by-test, body-length}
+use Rattle.refusals.proofs.Laws.{by-test}
+use Rattle.records.proofs.Laws.{body-length}
 use Rattle.gather.specs.Gather.{judged, Gathered, more, next, RecordRead, window, failure, nextRead, readOf, bytesIn, Turn, soFar, inAll, refusal, turnIn, Shows}
 use Rattle.gather.specs.declared.Got.{Got}
 use Rattle.gather.specs.declared.Got.the-variants as Came

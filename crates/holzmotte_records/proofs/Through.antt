@@ -7,9 +7,6 @@ use native.Mathlib.Omega.{arith}
 use lib.ListN.{length, drop, replicate}
 use borrow.Author.Tests.{lt-ltb, le-ltb}
 use lib.Dec.{leb}
-use Rattle.refusals.specs.Number.{numberOf}
-use Rattle.refusals.specs.declared.Refusal.{Refusal}
-use Rattle.refusals.specs.declared.Refusal.the-variants.{TooMuch, NotGroups, StartState, Room, ControlByte, Cut, LongBody, RecordKind, Closed, BadState, UnknownEdition}
 use Rattle.refusals.specs.First.{check, Verdict, accepted, refused, first, byVerdict}
 use Rattle.refusals.proofs.Laws.{one-more}
 use Rattle.records.specs.Record.{bodyLimit, readChecks, Answer, whole, end, readAt}
@@ -20,6 +17,10 @@ use Rattle.lent_words.proofs.Laws.{summary-short, summary-long}
 use Rattle.holzmotte_records.specs.Boundary.{readingChecks, readingResult, recordWords, ReadsThroughC}
 
 -- ---- reading
+
+-- the verdict on a summary of so many bytes, where the reader accepts
+abbrev pub onSummary : (bytes : ℕ) → Verdict
+onSummary bytes = cond (tooShort 8 5 bytes) (refused 4 0) accepted
 
 -- the verdict of the reader
 abbrev pub verdictOf : Answer → Verdict
@@ -42,11 +43,11 @@ module _ (file : List ℕ) (place summary : ℕ) where
   by-end false kind start len next = told-by (first (readChecks bodyLimit file place)) kind start len next
 
   pub reading-verdict : first (readingChecks file place summary)
-      ≡ byVerdict (verdictOf (readAt bodyLimit file place)) (cond (tooShort 8 5 summary) (refused 4 0) accepted) refused
+      ≡ byVerdict (verdictOf (readAt bodyLimit file place)) (onSummary summary) refused
   unfolding readingChecks readAt
   reading-verdict =
       one-more (cond (leb (length file) place) [] (readChecks bodyLimit file place)) (check 4 (tooShort 8 5 summary))
-      ∙ ap (λ (v : Verdict). byVerdict v (cond (tooShort 8 5 summary) (refused 4 0) accepted) refused) (by-end (leb (length file) place) _ _ _ _)
+      ∙ ap (λ (v : Verdict). byVerdict v (onSummary summary) refused) (by-end (leb (length file) place) _ _ _ _)
 
 -- five words, to a summary that is too short or long enough for them
 pub told-short : (words summary : List ℕ) → length summary < 40 → (_≡_ {A = ℕ} 4 (cond (tooShort 8 5 (length summary)) 4 0)) × (summary ≡ summaryWith 5 words summary)
@@ -70,11 +71,11 @@ in-64-bits number place h = omega arith
 module _ (file : List ℕ) (place : ℕ) (summary : List ℕ) (r : ℕ) (summary′ : List ℕ) where
   -- by the reader's answer
   by-answer : (a : Answer) → a ≡ readAt bodyLimit file place
-      → r ≡ resultOf (byVerdict (verdictOf a) (cond (tooShort 8 5 (length summary)) (refused 4 0) accepted) refused) % 2 ^ 64
+      → r ≡ resultOf (byVerdict (verdictOf a) (onSummary (length summary)) refused) % 2 ^ 64
       → summary′ ≡ summaryWith 5 (recordWords a) summary → ReadsThroughC file place summary r summary′
   unfolding readingResult
   by-answer a e f g = (
-    f ∙ ap (λ (x : Answer). resultOf (byVerdict (verdictOf x) (cond (tooShort 8 5 (length summary)) (refused 4 0) accepted) refused) % 2 ^ 64) e
+    f ∙ ap (λ (x : Answer). resultOf (byVerdict (verdictOf x) (onSummary (length summary)) refused) % 2 ^ 64) e
         ∙ ap (λ (v : Verdict). resultOf v % 2 ^ 64) (sym (reading-verdict file place (length summary))),
     g ∙ ap (λ (x : Answer). summaryWith 5 (recordWords x) summary) e,
   )
@@ -93,20 +94,6 @@ module _ (file : List ℕ) (place : ℕ) (summary : List ℕ) (r : ℕ) (summary
   pub reads-refused : (number at : ℕ) → Record.refused number at ≡ readAt bodyLimit file place → number < 256 → r ≡ number + 256 * (at % 2 ^ 56)
       → summary′ ≡ summaryWith 5 (replicate 5 0) summary → ReadsThroughC file place summary r summary′
   reads-refused number at e l f g = by-answer (Record.refused number at) e (f ∙ in-64-bits number at l) g
-
--- a refusal's number fits one byte
-pub number-small : (why : Refusal) → numberOf why < 256
-number-small TooMuch = omega arith
-number-small NotGroups = omega arith
-number-small StartState = omega arith
-number-small Room = omega arith
-number-small ControlByte = omega arith
-number-small Cut = omega arith
-number-small LongBody = omega arith
-number-small RecordKind = omega arith
-number-small Closed = omega arith
-number-small BadState = omega arith
-number-small UnknownEdition = omega arith
 
 -- ---- writing: the verdict of the writer
 abbrev verdictWritten : WriteAnswer → Verdict

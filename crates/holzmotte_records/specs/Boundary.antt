@@ -16,7 +16,7 @@ use Rattle.lent_words.specs.Words.{resultOf, tooShort, summaryWith, yes}
 unfoldable pub readingChecks : (file : List ℕ) (place summary : ℕ) → List Check
 readingChecks file place summary = cond (leb (length file) place) [] (readChecks bodyLimit file place) ++ check 4 (tooShort 8 5 summary) ∷ []
 
--- a result has 64 bits, which hold the place of any file below 2^56 bytes
+-- a result has 64 bits, which hold the place in any file of up to 2^56 bytes
 unfoldable pub readingResult : (file : List ℕ) (place summary : ℕ) → ℕ
 readingResult file place summary = resultOf (first (readingChecks file place summary)) % 2 ^ 64
 

@@ -13,7 +13,7 @@ use Rattle.io.specs.Counts.{Counts}
 use Rattle.putting.specs.Overlaid.{PutsText}
 use Rattle.putting.proofs.Laws.{puts-length}
 use Rattle.records.specs.Record.{bodyOf}
-use Rattle.records.proofs.Laws.{by-test}
+use Rattle.refusals.proofs.Laws.{by-test}
 use Rattle.gather.specs.Gather.{Gathered, more, done, stop, failed, bytesIn}
 use Rattle.display.specs.Display.{inputFailedLine}
 use Rattle.display.proofs.Laws.{refused-length}

@@ -12,11 +12,6 @@ use Rattle.refusals.specs.First.{refused as refuses}
 use Rattle.refusals.proofs.Laws.{passed}
 use Rattle.records.specs.Record.{twoAt, readChecks, Answer, whole, end, refused, readAt, bodyOf}
 
--- By cases on a test.
-pub by-test : {C : Type 0} (b : Bool) → (b ≡ true → C) → (b ≡ false → C) → C
-by-test true f g = f refl
-by-test false f g = g refl
-
 -- What a whole record that was found tells.
 pub record Inside (limit : ℕ) (s : List ℕ) (at kind start len next : ℕ) : Type 0 where
   pub begins : at < length s

@@ -10,7 +10,7 @@ use borrow.Author.Tests.{ltb-true, ltb-false, leb-true, leb-false, le-ltb, lt-le
 use Rattle.refusals.specs.First.{first}
 use Rattle.records.specs.Record.{bodyLimit, oldBodyLimit, twoAt, Answer, whole, end, refused, readChecks, readAt}
 use Rattle.records.specs.OldReader.{longerAt, OldReaderAt, thenFrom, answersFrom, answersUpToLonger, OldReader}
-use Rattle.records.proofs.Laws.{by-test}
+use Rattle.refusals.proofs.Laws.{by-test}
 
 -- by cases: no head left, a cut head, a longer body, and neither
 pub old-reader-at : OldReaderAt

@@ -1,5 +1,5 @@
 -- Laws of refusal numbers and of the first check that applies.
-use Prim.Native.Nat.{ℕ}
+use Prim.Native.Nat.{ℕ, _<_}
 use mathlib.Core.Path.{_≡_, refl, ap, sym, _∙_}
 use mathlib.Core.Bool.{Bool, true, false, cond}
 use mathlib.Core.List.{List, [], _∷_, _++_}
@@ -40,6 +40,25 @@ back UnknownEdition = refl
 
 pub number-injective : (a b : Refusal) → numberOf a ≡ numberOf b → a ≡ b
 number-injective a b e = sym (back a) ∙ ap refusalOf e ∙ back b
+
+-- A number fits one byte.
+pub number-small : (r : Refusal) → numberOf r < 256
+number-small TooMuch = omega arith
+number-small NotGroups = omega arith
+number-small StartState = omega arith
+number-small Room = omega arith
+number-small ControlByte = omega arith
+number-small Cut = omega arith
+number-small LongBody = omega arith
+number-small RecordKind = omega arith
+number-small Closed = omega arith
+number-small BadState = omega arith
+number-small UnknownEdition = omega arith
+
+-- By the two cases of a test.
+pub by-test {ℓ} : {P : Type ℓ} (b : Bool) → (b ≡ true → P) → (b ≡ false → P) → P
+by-test true f g = f refl
+by-test false f g = g refl
 
 -- Of an accepted list no row applies.
 pub passed : (c : Check) (cs : List Check) → first (c ∷ cs) ≡ accepted → (c .applies ≡ false) × (first cs ≡ accepted)

@@ -1,7 +1,8 @@
 use borrow.Author.Needs.{needs}
 use mathlib.Core.Path.{sym, ap, _∙_}
 use Rattle.records.specs.Record.{answerOf}
-use Rattle.holzmotte_records.proofs.Through.{number-small, reads-whole, reads-end, reads-refused}
+use Rattle.refusals.proofs.Laws.{number-small}
+use Rattle.holzmotte_records.proofs.Through.{reads-whole, reads-end, reads-refused}
 use Rattle.holzmotte_records.proofs.holzmotte_read_record.Statement.{statement}
 use Rattle.holzmotte_records.proofs.holzmotte_read_record.Tie as tie
 

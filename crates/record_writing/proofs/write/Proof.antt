@@ -9,7 +9,7 @@ use denote.Ref.{now}
 use borrow.Author.Tests.{eqb-true}
 use Rattle.records.specs.Record.{unknownKind}
 use Rattle.record_writing.specs.Writing.{limitKept}
-use Rattle.records.proofs.Laws.{by-test}
+use Rattle.refusals.proofs.Laws.{by-test}
 use Rattle.record_writing.proofs.Laws.{both-small, too-long, no-kind, no-groups, no-room, written}
 use Rattle.record_writing.proofs.write.Statement.{statement}
 use Rattle.record_writing.proofs.write.Tie as tie
