@@ -14,7 +14,7 @@ use Rattle.block.specs.Block.{Slot, Control, Calm, Data, Set, Start, Ter
 use Rattle.block.specs.Block.{flagOf, laneOf, sentCode, carries, carrierBy, carrier, carrierKind, vectorKind, octetAt, flagAt, formatOf, vectorOf, valid, errorVector, localFaultVector, kindFor, kindOf, decoded, some}
 use Rattle.block.specs.Rows.{formats, row, formatRow}
 use Rattle.refusals.proofs.Laws.{by-test}
-use Rattle.block.proofs.Tests.{both-left, both-right, or-right, all, holds, every, every-at, is-true}
+use Rattle.bits.proofs.Tests.{both-left, both-right, or-right, all, holds, every, every-at, is-true}
 use Rattle.block.proofs.Formats.{has, blind, row-none, row-format}
 use Rattle.block.proofs.Reading.{all-below, below-at, decided, vector-flag, vector-lane}
 use Rattle.block.proofs.Sending.{own}

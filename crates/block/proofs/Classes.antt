@@ -17,7 +17,7 @@ use Rattle.block.specs.declared.Class.the-variants as Class
 use Rattle.block.specs.Block.{Format, noFormat, dataBlock, controlBlocks, byType, kindFor, vectorOf, kindBy, kindOf, some, says, good, classBy, classOf, kindIn}
 use Rattle.block.specs.Rows.{row, rowOf, indexOf}
 use Rattle.refusals.proofs.Laws.{by-test}
-use Rattle.block.proofs.Tests.{all}
+use Rattle.bits.proofs.Tests.{all}
 use Rattle.block.proofs.Formats.{sound, of-type, by-index}
 use Rattle.block.proofs.Reading.{Below, when-valid, when-not, data-below}
 use Rattle.block.proofs.Telling.{Tells, AllTell, vector-tells}

@@ -11,7 +11,7 @@ use lib.Pow.{shr-shr}
 use Rattle.block.specs.declared.Edition.{Edition}
 use Rattle.block.specs.Block.{Slot, Control, Calm, Data, Set, Start, Terminate, Field, Format, noFormat, dataBlock, controlBlocks, octetOf, controlBit, octetAt, flagAt, flagsAt, byType, formatOf, placeAt}
 use Rattle.block.specs.Rows.{width, fieldAt, bitsOf, formats, row, rowOf, indexOf, formatRow}
-use Rattle.block.proofs.Tests.{both-left, both-right, or-right, all, holds, every, every-at, each, at, eight}
+use Rattle.bits.proofs.Tests.{both-left, both-right, or-right, all, holds, every, every-at, each, at, eight}
 
 -- ---- the field of a character
 

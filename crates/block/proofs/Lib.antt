@@ -1,4 +1,3 @@
-pub mod Tests
 pub mod Formats
 pub mod Reading
 pub mod Telling
@@ -8,5 +7,4 @@ pub mod Sending
 pub mod Carried
 pub mod Types
 pub mod Near
-pub mod High
 pub mod Demand1

@@ -17,7 +17,7 @@ use Rattle.block.specs.declared.Kind.the-variants.{E}
 use Rattle.block.specs.Block.{Slot, Control, Calm, Data, Set, Start, Terminate, Format, noFormat, controlBlocks, kindFor, octetOf, controlBit, flagAt, flagOf, laneOf, byType, formatOf, vectorOf, kindBy, kindOf, decoded}
 use Rattle.block.specs.Rows.{width, fieldAt}
 use Rattle.block.specs.Distance.{differing, Near}
-use Rattle.block.proofs.Tests.{eight, unless, unless-right, not-leb, all, holds, each, at}
+use Rattle.bits.proofs.Tests.{eight, unless, unless-right, not-leb, all, holds, each, at}
 use Rattle.block.proofs.Formats.{flag-at, sound-has, sound-width, sound-place, found, blind}
 use Rattle.block.proofs.Types.{types-far, has-entry}
 use Rattle.block.proofs.Sending.{ten}

@@ -13,7 +13,7 @@ use Rattle.block.specs.declared.Reason.the-variants.{Header, BlockType, 
 use Rattle.block.specs.declared.Class.the-variants.{Bad}
 use Rattle.block.specs.Block.{Slot, Control, Calm, Data, Set, Start, Terminate, controlBlocks, controls, sets, without, octetIn, octetOf, controlBit, flagOf, laneOf, formatOf, vectorOf, lowPowerVector, kindFor, some, says, good, classOf, kindIn}
 use Rattle.block.specs.Rows.{fieldAt}
-use Rattle.block.proofs.Tests.{both-left, both-right, all, every}
+use Rattle.bits.proofs.Tests.{both-left, both-right, all, every}
 use Rattle.block.proofs.Formats.{flag-at, sound, all-sound, sound-has, of-format}
 use Rattle.block.proofs.Reading.{vector-flag, read-at, plain-kind}
 use Rattle.block.proofs.Classes.{kind-good}

@@ -17,7 +17,7 @@ use Rattle.block.specs.declared.Kind.the-variants.{E, LI}
 use Rattle.block.specs.Block.{Slot, Control, Calm, Data, Set, Start, Terminate, Format, dataBlock, lowPowerVector, same, kindFor, octetOf, controlBit, octetAt, flagAt, flagOf, laneOf, formatOf, vectorOf, valid, allBelow, errorVector, kindBy, decodedBy, kindOf, decoded, placeAt}
 use Rattle.block.specs.Rows.{width, fieldAt, SameFlags}
 use Rattle.refusals.proofs.Laws.{by-test}
-use Rattle.block.proofs.Tests.{both-left, both-right, all, eight, is-true}
+use Rattle.bits.proofs.Tests.{both-left, both-right, all, eight, is-true}
 use Rattle.block.proofs.Formats.{octet-at, flag-at, flag-le, blind, sound, all-sound, sound-has, sound-width, sound-place, of-format}
 
 -- ---- numbers below a bound

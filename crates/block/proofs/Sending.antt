@@ -19,7 +19,7 @@ use Rattle.block.specs.Block.{Slot, Control, Calm, Data, Set, Start, Ter
 use Rattle.block.specs.Block.{flagOf, laneOf, sentCode, packed, carries, payloadFor, block, none, carrierBy, carrier, octetAt, flagAt, formatOf, vectorOf, kindBy, decodedBy, kindOf, decoded, isError}
 use Rattle.block.specs.Rows.{width, bitsOf, formats, row, rowOf, formatRow, SameFlags}
 use Rattle.refusals.proofs.Laws.{by-test}
-use Rattle.block.proofs.Tests.{both-left, both-right, or-right, all, every, every-at, each, at, is-true}
+use Rattle.bits.proofs.Tests.{both-left, both-right, or-right, all, every, every-at, each, at, is-true}
 use Rattle.block.proofs.Formats.{has, roomy, sound, sound-roomy, sound-bits, sound-type, sound-has, row-sound, row-format}
 use Rattle.block.proofs.Reading.{Below, when-valid, kind-for}
 

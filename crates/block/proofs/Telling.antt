@@ -11,7 +11,7 @@ use Rattle.block.specs.declared.Edition.{Edition}
 use Rattle.block.specs.declared.Edition.the-variants.{Old, New}
 use Rattle.block.specs.Block.{controlsIn, sets, without, octetIn, Slot, Control, Calm, Data, Set, Start, Terminate, Format, octetOf, octetAt, flagsAt, vectorOf}
 use Rattle.block.specs.Rows.{fieldAt}
-use Rattle.block.proofs.Tests.{both-left, both-right, all, every}
+use Rattle.bits.proofs.Tests.{both-left, both-right, all, every}
 use Rattle.block.proofs.Formats.{flags-lt, sound, sound-small}
 use Rattle.block.proofs.Reading.{placeOf, read-at}
 

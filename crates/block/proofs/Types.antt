@@ -13,7 +13,7 @@ use Rattle.block.specs.Block.{Format, noFormat, controlBlocks, byType}
 use Rattle.block.specs.Rows.{row}
 use Rattle.block.specs.Types.{types, isType}
 use Rattle.block.specs.Distance.{differing}
-use Rattle.block.proofs.Tests.{both-left, both-right, unless, unless-right, not-leb, each, at}
+use Rattle.bits.proofs.Tests.{both-left, both-right, unless, unless-right, not-leb, each, at}
 
 -- entry y is a row with type y, or 0 where y is no type
 legal : List ℕ → ℕ → Bool

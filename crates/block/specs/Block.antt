@@ -7,7 +7,8 @@ use mathlib.Core.Bool.{Bool, true, false, cond, not, _&&_, _||_}
 use Prim.Native.Nat.{ℕ, zero, suc, _+_, _-_, _*_, _/_, _%_, _^_}
 use lib.Dec.{eqb, ltb}
 use lib.ListN.{length, getD}
-use Rattle.refusals.specs.First.{Check, check, checkAt, first, byVerdict}
+use Rattle.refusals.specs.First.{Check, check, first, byVerdict}
+use Rattle.control_bytes.specs.Control.{controlCheck}
 use Rattle.block.specs.declared.Edition.{Edition}
 use Rattle.block.specs.declared.Edition.the-variants.{Old, New}
 use Rattle.block.specs.declared.Kind.{Kind}
@@ -424,19 +425,6 @@ abbrev pub errorPayload : ℕ
 errorPayload = 0x1e + 2 ^ 8 * codes 8 0x1e
 
 -- ---- encoding one vector by itself
-
--- Refusal 5: "byte offset of the first" control byte above 15, of n words of five bytes from offset p on; past these words if there is none.
-unfoldable pub highFrom : ℕ → ℕ → List ℕ → ℕ
-highFrom zero p bytes = p
-highFrom (suc n) p bytes = cond (ltb 15 (getD bytes p 0)) p (highFrom n (p + 5) bytes)
-
--- the same of a whole list of words: the length of the list if there is none
-unfoldable pub highControl : List ℕ → ℕ
-highControl bytes = highFrom (length bytes / 5) 0 bytes
-
--- "5: a control byte above 15; byte offset of the first"
-abbrev pub controlCheck : List ℕ → Check
-controlCheck bytes = checkAt 5 (highControl bytes) (ltb (highControl bytes) (length bytes))
 
 -- "a vector of kind E is answered as kind E, not refused": carried by none
 pub data EncodeAnswer : Type 0 where

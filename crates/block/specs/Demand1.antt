@@ -9,7 +9,8 @@ use lib.ListN.{length}
 use Rattle.refusals.specs.First.{check}
 use Rattle.refusals.specs.Outcome.{Outcome}
 use Rattle.block.specs.declared.Edition.{Edition}
-use Rattle.block.specs.Block.{EncodeAnswer, carried, refused, encodeAnswer, carrier, controlCheck}
+use Rattle.block.specs.Block.{EncodeAnswer, carried, refused, encodeAnswer, carrier}
+use Rattle.control_bytes.specs.Control.{controlCheck}
 
 abbrev pub Demand1OfEncode : Type 0
 Demand1OfEncode =

@@ -7,7 +7,7 @@ use borrow.Author.Tests.{eq-eqb, ne-eqb}
 use Rattle.block.specs.declared.Edition.{Edition}
 use Rattle.block.specs.declared.Edition.the-variants.{Old, New}
 use Rattle.block.specs.Block.{Control, Calm, Set, Terminate, octetOf}
-use Rattle.block.proofs.Tests.{or-right, each, at}
+use Rattle.bits.proofs.Tests.{or-right, each, at}
 use Rattle.characters.specs.Octets.{slotAt}
 
 -- ---- control characters and ordered sets

@@ -11,7 +11,7 @@ use lib.ListN.{length, getD}
 use Rattle.bits.specs.Bits.{bit, number, streamBit, lineBit}
 use Rattle.bits.proofs.Laws.{by-lt, bit-shr, bit-none, bit-or, bit-and, bit-number, same-bits}
 use Rattle.bits.proofs.Lists.{lineBit-lt, lineBit-is}
-use Rattle.block.proofs.Tests.{each, at as place}
+use Rattle.bits.proofs.Tests.{each, at as place}
 use Rattle.control_bytes.specs.declared.Over.{Over}
 use Rattle.control_bytes.specs.Laid.{fields, overBit}
 

@@ -1,3 +1,4 @@
+pub mod High
 pub mod Laid
 pub mod Scan
 pub mod Unique

@@ -1,12 +1,12 @@
 -- The scan of the control bytes. Assumes nothing.
-use Prim.Native.Nat.{ℕ, zero, suc, _+_, _*_, _/_, _%_, _≤_, _<_, _-_}
+use Prim.Native.Nat.{ℕ, suc, _+_, _*_, _/_, _%_, _≤_, _<_, _-_}
 use mathlib.Core.Path.{_≡_, sym, ap, _∙_, subst}
 use mathlib.Core.List.{List}
 use native.Mathlib.Omega.{arith}
 use native.Mathlib.Nat.{zero-add}
 use lib.ListN.{length, getD}
-use Rattle.block.specs.Block.{highFrom, highControl}
-use Rattle.block.proofs.High.{high-here, high-next}
+use Rattle.control_bytes.specs.Control.{highFrom, highControl}
+use Rattle.control_bytes.proofs.High.{high-here, high-next, high-none}
 
 -- a word passed, and the first above 15
 
@@ -28,18 +28,8 @@ scan-none bytes at n l e =
     sym (e ∙ ap (λ (i : ℕ). highFrom i at bytes) k)
 
 -- words that are all low have no first above 15
-none-high : (n p : ℕ) (bytes : List ℕ) → ((i : ℕ) → i < n → getD bytes (p + 5 * i) 0 < 16) → p + 5 * n ≡ highFrom n p bytes
-unfolding highFrom
-none-high zero p bytes f = omega arith
-none-high (suc n) p bytes f =
-    let b : p + 5 * 0 ≡ p = omega arith in
-    let a : getD bytes p 0 < 16 = subst (λ (i : ℕ). getD bytes i 0 < 16) b (f 0 (omega arith)) in
-    let h : getD bytes p 0 ≤ 15 = omega arith in
-    let e : p + 5 * suc n ≡ p + 5 + 5 * n = omega arith in
-    e ∙ none-high n (p + 5) bytes (λ i l. let q : p + 5 * suc i ≡ p + 5 + 5 * i = omega arith in rw q at (f (suc i) (omega arith))) ∙ sym (high-next n p bytes h)
-
 pub all-low : (bytes : List ℕ) → length bytes % 40 ≡ 0 → ((i : ℕ) → 5 * i < length bytes → getD bytes (5 * i) 0 < 16) → length bytes ≡ highControl bytes
 unfolding highControl
 all-low bytes z f =
     let e : length bytes ≡ 0 + 5 * (length bytes / 5) = omega arith in
-    e ∙ none-high (length bytes / 5) 0 bytes (λ i l. subst (λ (n : ℕ). getD bytes n 0 < 16) (sym (zero-add (5 * i))) (f i (omega arith)))
+    e ∙ sym (high-none (length bytes / 5) 0 bytes (λ i l. subst (λ (n : ℕ). getD bytes n 0 ≤ 15) (sym (zero-add (5 * i))) (omega (arith, f i (omega arith)))))

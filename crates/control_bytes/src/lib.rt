@@ -5,7 +5,7 @@ ghost use mathlib.Core.Bool.{true};
 ghost use Prim.Native.Nat.{ℕ, _+_, _*_, _%_, _<_, _≤_, max};
 ghost use lib.ListN.{length, getD};
 ghost use Rattle.bits.specs.Bits.{lineBit};
-ghost use Rattle.block.specs.Block.{highControl};
+ghost use Rattle.control_bytes.specs.Control.{highControl};
 ghost use Rattle.control_bytes.specs.Laid.{overBit};
 
 // The byte offset of the first control byte above 15; where there is none, the end of the words.

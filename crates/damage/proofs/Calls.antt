@@ -12,7 +12,7 @@ use Rattle.bits.proofs.Laws.{length-cut}
 use Rattle.register.specs.Register.{flip}
 use Rattle.line.specs.declared.Block.{Block}
 use Rattle.block.specs.Block.{editionOf}
-use Rattle.block.proofs.Tests.{all}
+use Rattle.bits.proofs.Tests.{all}
 use Rattle.block.proofs.Reading.{decoded-length}
 use Rattle.block.proofs.Near.{apart}
 use Rattle.diagrams.specs.declared.State.{State}

@@ -22,7 +22,7 @@ use Rattle.block.specs.declared.Kind.{Kind}
 use Rattle.block.specs.declared.Kind.the-variants.{E}
 use Rattle.block.specs.declared.Reason.the-variants.{BlockType}
 use Rattle.block.specs.declared.Class.the-variants.{Bad}
-use Rattle.block.proofs.Tests.{all}
+use Rattle.bits.proofs.Tests.{all}
 use Rattle.block.proofs.Near.{apart, four-apart, two-apart}
 use Rattle.diagrams.specs.declared.State.the-variants.{Init}
 use Rattle.transmit.specs.Send.{errorBlock, sentBlocks, blocksFor, lineWords, sentLine, vectorList}

@@ -13,7 +13,7 @@ use Rattle.block.specs.declared.Edition.{Edition}
 use Rattle.block.specs.Block.{dataBlock, controlBlocks, flagAt, flagOf, laneOf, byType, formatOf, kindOf, decoded}
 use Rattle.block.specs.Distance.{Near}
 use Rattle.block.specs.declared.Kind.the-variants.{E}
-use Rattle.block.proofs.Tests.{all, eight}
+use Rattle.bits.proofs.Tests.{all, eight}
 use Rattle.block.proofs.Reading.{good-vector, vector-flag, data-inside}
 use Rattle.block.proofs.Near.{apart, near-blocks, near-error, data-bits-at}
 use Rattle.transmit.specs.Send.{errorBlock}

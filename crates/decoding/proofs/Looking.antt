@@ -11,7 +11,7 @@ use lib.Pow.{shr-shr}
 use Rattle.block.specs.declared.Edition.{Edition}
 use Rattle.block.specs.Block.{Slot, Control, Calm, Data, Set, Start, Terminate, Format, octetOf, octetAt}
 use Rattle.block.specs.Rows.{width, fieldAt, row, rowOf, slotNumber}
-use Rattle.block.proofs.Tests.{both-left, both-right, or-right, not-leb, all, each, at}
+use Rattle.bits.proofs.Tests.{both-left, both-right, or-right, not-leb, all, each, at}
 use Rattle.block.proofs.Formats.{sound, sound-place, row-sound}
 use Rattle.block.proofs.Reading.{placeOf}
 use Rattle.block.specs.Types.{types}

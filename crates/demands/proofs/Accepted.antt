@@ -9,7 +9,8 @@ use lib.ListN.{length, getD, take, drop, length-drop, take-append-drop}
 use lib.Seq.{length-take-le, getD-take, getD-drop, drop-drop}
 use borrow.Author.Tests.{ltb-false, eqb-true, not-false}
 use Rattle.refusals.proofs.Laws.{passed}
-use Rattle.block.specs.Block.{highFrom, highControl}
+use Rattle.control_bytes.specs.Control.{highControl}
+use Rattle.control_bytes.proofs.High.{low-word}
 use Rattle.transmit.specs.Send.{vectorsIn, vectorList}
 use Rattle.sending.specs.Answer.{sendChecks}
 use Rattle.demands.specs.Words.{SendAccepts}
@@ -46,25 +47,6 @@ module _ (edition : ℕ) (bytes : List ℕ) (start room : ℕ) (ok : SendAccepts
   -- the place of the first high control byte is past the list
   none-high : length bytes ≤ highControl bytes
   none-high = ltb-false (highControl bytes) (length bytes) (checked .5)
-
--- ---- no control byte above 15
-
--- where no control byte of n words from p on is high, each is below 16
-low-controls : (n p : ℕ) (bytes : List ℕ) → p + 5 * n ≤ highFrom n p bytes → (i : ℕ) → i < n → getD bytes (p + 5 * i) 0 < 16
-unfolding highFrom
-low-controls zero p bytes h i l = absurd (omega arith)
-low-controls (suc n) p bytes h i l = go (ltb 15 (getD bytes p 0)) refl h (low-controls n (p + 5) bytes) i l
-  where
-    go : (b : Bool) → ltb 15 (getD bytes p 0) ≡ b → p + 5 * suc n ≤ cond b p (highFrom n (p + 5) bytes)
-        → (p + 5 + 5 * n ≤ highFrom n (p + 5) bytes → (j : ℕ) → j < n → getD bytes (p + 5 + 5 * j) 0 < 16)
-        → (i : ℕ) → i < suc n → getD bytes (p + 5 * i) 0 < 16
-    go true e h rest i l = absurd (omega arith)
-    go false e h rest zero l =
-        let z : p + 5 * 0 ≡ p = omega arith in
-        rw z (omega (arith, ltb-false 15 (getD bytes p 0) e))
-    go false e h rest (suc j) l =
-        let z : p + 5 * suc j ≡ p + 5 + 5 * j = omega arith in
-        rw z (rest (omega arith) j (omega arith))
 
 -- ---- the vectors
 
@@ -120,4 +102,4 @@ module _ (edition : ℕ) (bytes : List ℕ) (start room : ℕ) (ok : SendAccepts
       vectors-in (length bytes / 10) bytes (omega (arith, ten-each))
       (λ i l.
       let e : 0 + 5 * i ≡ 5 * i = omega arith in
-      rw (← e) (low-controls (length bytes / 5) 0 bytes (omega (arith, none-high edition bytes start room ok)) i (omega arith)))
+      rw (← e) (omega (arith, low-word (length bytes / 5) 0 bytes (omega (arith, none-high edition bytes start room ok)) i (omega arith))))

@@ -14,7 +14,7 @@ use Rattle.block.specs.declared.Edition.the-variants.{Old, New}
 use Rattle.block.specs.Block.{Slot, Control, Calm, Data, Set, Start, Terminate, Field, Format, block, none, controlsIn, kindFor, sets, without, codeIn, codeOf, codeFor, controlBit, laneOf, flagOf, sentCode, carries, carrierBy, payloadFor, carrier}
 use Rattle.block.specs.declared.Kind.{Kind}
 use Rattle.block.specs.Rows.{formats}
-use Rattle.block.proofs.Tests.{both-left, both-right, all, every, is-true}
+use Rattle.bits.proofs.Tests.{both-left, both-right, all, every, is-true}
 use Rattle.block.proofs.Formats.{has, sound, sound-has, all-sound}
 
 -- a table of octets gives a larger number no code

@@ -5,7 +5,8 @@ use Prim.Native.Nat.{ℕ}
 use lib.Dec.{lit≤}
 use lib.ListN.{replicate}
 use Rattle.refusals.specs.First.{first}
-use Rattle.block.specs.Block.{editionOf, carrier, kindFor, vectorKind, highFrom, highControl}
+use Rattle.block.specs.Block.{editionOf, carrier, kindFor, vectorKind}
+use Rattle.control_bytes.specs.Control.{highFrom, highControl}
 use Rattle.diagrams.specs.Diagram.{diagramOf, afterIdle, afterData, afterError}
 use Rattle.transmit.specs.Send.{vectorsIn, vectorList}
 use Rattle.sending.specs.Answer.{sendChecks}

@@ -11,7 +11,7 @@ use Rattle.block.specs.declared.Reason.the-variants.{Header, BlockType, Control
 use Rattle.block.specs.declared.Class.the-variants.{Bad}
 use Rattle.block.specs.Block.{Format, controlBlocks, formatOf, vectorOf, lowPowerVector, kindFor, some, says, good, classOf, kindIn, carries, payloadFor, block, carrierBy, carrier, carrierKind}
 use Rattle.block.specs.Rows.{formats}
-use Rattle.block.proofs.Tests.{both-left, both-right, every, is-true}
+use Rattle.bits.proofs.Tests.{both-left, both-right, every, is-true}
 use Rattle.block.proofs.Reading.{plain-kind}
 use Rattle.block.proofs.OldKinds.{not-low, isLow, other, old-kind}
 use Rattle.editions.specs.Before.{classBefore, carrierAmong, carrierBefore, kindBefore}

@@ -15,7 +15,8 @@ use Rattle.block.specs.declared.Kind.{Kind}
 use Rattle.block.specs.declared.Reason.the-variants.{Header, BlockType, ControlCode, SetCode}
 use Rattle.block.specs.declared.Class.{Class}
 use Rattle.block.specs.declared.Class.the-variants.{Bad}
-use Rattle.block.specs.Block.{Format, dataBlock, controlBlocks, formatOf, decoded, some, says, good, isD, isC, isS, isT, kindIn, carries, payloadFor, Carrier, block, none, carrierKind, controlCheck}
+use Rattle.block.specs.Block.{Format, dataBlock, controlBlocks, formatOf, decoded, some, says, good, isD, isC, isS, isT, kindIn, carries, payloadFor, Carrier, block, none, carrierKind}
+use Rattle.control_bytes.specs.Control.{controlCheck}
 use Rattle.lock.specs.Lock.{slipsOf}
 use Rattle.diagrams.specs.Diagram.{stateNumber}
 use Rattle.diagrams.specs.declared.State.{State}

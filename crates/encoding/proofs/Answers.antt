@@ -10,9 +10,10 @@ use borrow.Author.Tests.{ne-eqb}
 use Rattle.refusals.specs.First.{accepted, refused as turned, first, byVerdict}
 use Rattle.block.specs.declared.Edition.{Edition}
 use Rattle.block.specs.declared.Kind.the-variants.{D, C, S, T, LI, E}
-use Rattle.block.specs.Block.{twoWords, Carrier, block, none, carrier, highFrom, highControl, carried, refused, encodeAnswer}
+use Rattle.block.specs.Block.{twoWords, Carrier, block, none, carrier, carried, refused, encodeAnswer}
+use Rattle.control_bytes.specs.Control.{highFrom, highControl}
 use Rattle.block.proofs.Sending.{ten, from, listed, carrier-kind}
-use Rattle.block.proofs.High.{high-here, high-next}
+use Rattle.control_bytes.proofs.High.{high-here, high-next}
 use Rattle.block.specs.declared.Coded.{Coded}
 use Rattle.encoding.specs.declared.Encoded.{Encoded}
 use Rattle.block.specs.Coded.{codedOf}

@@ -15,7 +15,7 @@ use Rattle.block.specs.declared.Kind.the-variants.{E}
 use Rattle.block.specs.Block.{Format, noFormat, kindFor, carries, payloadFor, block, carrierBy, carrier, errorPayload}
 use Rattle.block.specs.Rows.{formats, row, SameFlags}
 use Rattle.refusals.proofs.Laws.{by-test}
-use Rattle.block.proofs.Tests.{both-left, both-right, or-right, all, every, every-at, is-true}
+use Rattle.bits.proofs.Tests.{both-left, both-right, or-right, all, every, every-at, is-true}
 use Rattle.block.proofs.Formats.{sound, all-sound, flags-lt}
 use Rattle.block.proofs.Sending.{carried-flags}
 use Rattle.fields.specs.Parts.{flagsOf, seek, firstBy, nextBy}

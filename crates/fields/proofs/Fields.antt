@@ -12,7 +12,7 @@ use Rattle.block.specs.declared.Edition.{Edition}
 use Rattle.block.specs.declared.Edition.the-variants.{Old, New}
 use Rattle.block.specs.Block.{Slot, Control, Calm, Data, Set, Start, Terminate, flagAt, flagOf, laneOf, controlBit, codeOf, sentCode}
 use Rattle.block.specs.Rows.{width, row, SameFlags}
-use Rattle.block.proofs.Tests.{all, holds, each, at, eight, or-right}
+use Rattle.bits.proofs.Tests.{all, holds, each, at, eight, or-right}
 use Rattle.block.proofs.Reading.{flags-same}
 use Rattle.fields.proofs.Told.{NoneOf, has, otherwise}
 use Rattle.fields.specs.Parts.{spread, fieldIn, placeOfField, slotOf, fieldsBy, placesBy, fieldCode}

@@ -14,7 +14,7 @@ use borrow.Author.Tests.{lt-ltb, le-ltb}
 use Rattle.block.specs.declared.Edition.{Edition}
 use Rattle.block.specs.Block.{Field, d, sentCode, packed, carries, payloadFor}
 use Rattle.block.specs.Rows.{width, bitsOf, row}
-use Rattle.block.proofs.Tests.{is-true}
+use Rattle.bits.proofs.Tests.{is-true}
 use Rattle.block.proofs.Formats.{roomy, sound-length, sound-roomy, sound-bits, sound-type, row-sound}
 use Rattle.block.proofs.Sending.{field-lt, packed-lt, above-lt}
 use Rattle.fields.specs.Parts.{fieldIn, placeOfField}

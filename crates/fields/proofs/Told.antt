@@ -4,7 +4,7 @@ use mathlib.Core.Bool.{Bool, false, _||_}
 use mathlib.Core.List.{List, [], _∷_}
 use Prim.Native.Nat.{ℕ, _<_}
 use lib.Dec.{T, eqb, eqb→eq}
-use Rattle.block.proofs.Tests.{or-right, each, at}
+use Rattle.bits.proofs.Tests.{or-right, each, at}
 
 -- the last of them first
 abbrev pub NoneOf : List ℕ → ℕ → Type 0

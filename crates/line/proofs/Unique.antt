@@ -28,6 +28,11 @@ pub store-unique : (room : List ℕ) (at w : ℕ) (after after′ : List ℕ)
     → after′ ≡ take at room ++ cut 8 (bit w) 8 ++ drop (at + 8) room → after ≡ after′
 store-unique room at w after after′ p q = p ∙ sym q
 
+pub store-half-unique : (room : List ℕ) (at w : ℕ) (after after′ : List ℕ)
+    → after ≡ take at room ++ cut 8 (bit w) 4 ++ drop (at + 4) room
+    → after′ ≡ take at room ++ cut 8 (bit w) 4 ++ drop (at + 4) room → after ≡ after′
+store-half-unique room at w after after′ p q = p ∙ sym q
+
 pub put-group-unique : (room : List ℕ) (at : ℕ) (a b c d : Block) (after after′ : List ℕ)
     → after ≡ take at room ++ cut 8 (streamBit 66 (blockNumber a ∷ blockNumber b ∷ blockNumber c ∷ blockNumber d ∷ [])) 33 ++ drop (at + 33) room
     → after′ ≡ take at room ++ cut 8 (streamBit 66 (blockNumber a ∷ blockNumber b ∷ blockNumber c ∷ blockNumber d ∷ [])) 33 ++ drop (at + 33) room → after ≡ after′

@@ -76,6 +76,17 @@ pub fn store(room: &mut [u8], at: usize, w: u64)
     room[at + 7] = (w / 72057594037927936 % 256) as u8;
 }
 
+// Four whole bytes put on the line: the lower half of a word.
+pub fn store_half(room: &mut [u8], at: usize, w: u64)
+    requires { ⌜ at + 4 ≤ length (now room) ⌝ }
+    ensures { λ r. ⌜ now (room .exit) ≡ take at (now (room .entry)) ++ cut 8 (bit w) 4 ++ drop (at + 4) (now (room .entry)) ⌝ }
+{
+    room[at] = (w % 256) as u8;
+    room[at + 1] = (w / 256 % 256) as u8;
+    room[at + 2] = (w / 65536 % 256) as u8;
+    room[at + 3] = (w / 16777216 % 256) as u8;
+}
+
 // Four words and a byte put on the line.
 fn put_words(room: &mut [u8], at: usize, w: u64, x: u64, y: u64, z: u64, last: u8)
     requires { ⌜ at + 33 ≤ length (now room) ⌝ }

@@ -9,7 +9,8 @@ use Rattle.refusals.specs.First.{first}
 use Rattle.block.specs.declared.Edition.{Edition}
 use Rattle.block.specs.declared.Edition.the-variants.{Old, New}
 use Rattle.block.specs.declared.Kind.the-variants.{C, S, T, E}
-use Rattle.block.specs.Block.{encodeAnswer, highFrom, highControl, carrier, kindFor, kindOf, localFaultVector}
+use Rattle.block.specs.Block.{encodeAnswer, carrier, kindFor, kindOf, localFaultVector}
+use Rattle.control_bytes.specs.Control.{highFrom, highControl}
 use Rattle.marked_examples.specs.Example.{payload, Example, encodes, classifies, scrambles, AllHold}
 
 marked : List Example

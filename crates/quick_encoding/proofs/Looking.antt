@@ -12,7 +12,7 @@ use Rattle.block.specs.declared.Kind.{Kind}
 use Rattle.block.specs.declared.Kind.the-variants.{D, C, S, T, E}
 use Rattle.block.specs.Block.{Slot, Control, Data, Set, Start, Terminate, kindFor, codeOf, sentCode, carries, carrier, errorPayload}
 use Rattle.block.specs.Rows.{row}
-use Rattle.block.proofs.Tests.{eight}
+use Rattle.bits.proofs.Tests.{eight}
 use Rattle.quick_encoding.specs.declared.Known.{Known}
 use Rattle.block.specs.Coded.{codedOf}
 use Rattle.fields.specs.Parts.{spread, fieldIn, placeOfField, firstBy}

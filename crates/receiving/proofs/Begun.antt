@@ -10,7 +10,7 @@ use Rattle.block.specs.Block.{decoded, isS, isErrorVector, errorVector, vectorK
 use Rattle.block.specs.declared.Kind.{Kind}
 use Rattle.block.specs.declared.Kind.the-variants.{E}
 use Rattle.refusals.proofs.Laws.{by-test}
-use Rattle.block.proofs.Tests.{is-true}
+use Rattle.bits.proofs.Tests.{is-true}
 use Rattle.block.proofs.Reading.{same-is}
 use Rattle.block.proofs.Carried.{kind-of-error, kind-of-fault, kind-of-decoded}
 use Rattle.diagrams.specs.Diagram.{afterIdle, afterData, afterError, afterLow, diagramOf}

@@ -10,7 +10,8 @@ use lib.Dec.{ltb, leb, eqb}
 use borrow.Author.Tests.{ltb-true, ltb-false}
 use Rattle.refusals.specs.First.{check, checkAt, Verdict, accepted, refused, first, byVerdict}
 use Rattle.block.specs.declared.Edition.{Edition}
-use Rattle.block.specs.Block.{editionOf, highControl}
+use Rattle.block.specs.Block.{editionOf}
+use Rattle.control_bytes.specs.Control.{highControl}
 use Rattle.sending.specs.Answer.{SendAnswer, sent, sendChecks, sentFor, sendAnswer}
 use Rattle.sending.specs.Answer as Answer
 

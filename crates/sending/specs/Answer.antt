@@ -9,7 +9,8 @@ use Rattle.refusals.specs.Number.{numberOf}
 use Rattle.refusals.specs.First.{Check, check, first, byVerdict}
 use Rattle.scrambler.specs.Scrambler.{mirror}
 use Rattle.block.specs.declared.Edition.{Edition}
-use Rattle.block.specs.Block.{editionOf, editionCheck, controlCheck}
+use Rattle.block.specs.Block.{editionOf, editionCheck}
+use Rattle.control_bytes.specs.Control.{controlCheck}
 use Rattle.diagrams.specs.Diagram.{stateNumber}
 use Rattle.diagrams.specs.declared.State.the-variants.{Init}
 use Rattle.transmit.specs.Send.{vectorList, stateAfter, replaced, historyOver, blocksFor, sentLine}

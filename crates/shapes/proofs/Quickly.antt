@@ -16,7 +16,7 @@ use Rattle.block.specs.declared.Class.{Class}
 use Rattle.block.specs.Block.{twoWords, Slot, Control, Calm, Data, Set, Start, Terminate, Format, lowPowerVector, octetOf, octetAt, flagsAt, kindFor, vectorOf, decodedBy, decoded, good, classBy, classOf, kindIn, isError}
 use Rattle.block.specs.Rows.{width, fieldAt, row, rowOf}
 use Rattle.refusals.proofs.Laws.{by-test}
-use Rattle.block.proofs.Tests.{each, at, all, both-left, both-right, or-right}
+use Rattle.bits.proofs.Tests.{each, at, all, both-left, both-right, or-right}
 use Rattle.block.proofs.Formats.{flags-lt, sound, row-sound}
 use Rattle.block.proofs.Reading.{placeOf, Below, when-valid, plain-kind}
 use Rattle.block.proofs.Classes.{class-good, kind-good}

@@ -5,7 +5,7 @@ use lib.Dec.{T}
 use Rattle.block.specs.declared.Edition.{Edition}
 use Rattle.block.specs.Block.{Slot, Control, Calm, Data, Set, Start, Terminate, Format, octetOf, octetAt}
 use Rattle.block.specs.Rows.{width, fieldAt}
-use Rattle.block.proofs.Tests.{all}
+use Rattle.bits.proofs.Tests.{all}
 use Rattle.block.proofs.Formats.{blind, sound, sound-width}
 use Rattle.block.proofs.Reading.{placeOf, read-at}
 

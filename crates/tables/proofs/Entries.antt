@@ -8,7 +8,7 @@ use lib.Dec.{T, eqb, eqb→eq}
 use lib.ListN.{getD}
 use Rattle.block.specs.Rows.{rowOf}
 use Rattle.block.specs.Types.{types}
-use Rattle.block.proofs.Tests.{both-left, both-right, each, at}
+use Rattle.bits.proofs.Tests.{both-left, both-right, each, at}
 use Rattle.tables.specs.Tables.{typeWord}
 
 -- each entry is the row of its byte, and stands in its word

@@ -10,7 +10,7 @@ use borrow.Author.Tests.{eqb-true, eqb-false}
 use Rattle.block.specs.Block.{twoWords, same, lowPowerVector, lowPower}
 use Rattle.block.specs.Rows.{row}
 use Rattle.refusals.proofs.Laws.{by-test}
-use Rattle.block.proofs.Tests.{is-true, or-right, at}
+use Rattle.bits.proofs.Tests.{is-true, or-right, at}
 use Rattle.block.proofs.Reading.{same-is}
 
 -- four lanes of 06

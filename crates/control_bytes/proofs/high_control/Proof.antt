@@ -5,7 +5,7 @@ use native.Mathlib.Omega.{arith}
 use lib.ListN.{length}
 use denote.Ref.{now}
 use borrow.Author.Needs.{needs}
-use Rattle.block.specs.Block.{highFrom, highControl}
+use Rattle.control_bytes.specs.Control.{highFrom, highControl}
 use Rattle.control_bytes.proofs.Scan.{scan-turn, scan-found, scan-none}
 use Rattle.control_bytes.proofs.high_control.Statement.{statement}
 use Rattle.control_bytes.proofs.high_control.Tie as tie

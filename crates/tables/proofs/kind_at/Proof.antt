@@ -9,7 +9,7 @@ use borrow.Author.Needs.{needs}
 use Rattle.block.specs.declared.Kind.{Kind}
 use Rattle.block.specs.declared.Kind.the-variants.{D, C, S, T, LI, E}
 use Rattle.block.specs.Rows.{row}
-use Rattle.block.proofs.Tests.{at}
+use Rattle.bits.proofs.Tests.{at}
 use Rattle.tables.proofs.kind_at.Statement.{statement}
 use Rattle.tables.proofs.kind_at.Tie as tie
 

@@ -1,0 +1,4 @@
+pub mod Answer
+pub mod Demand1
+pub mod Listing
+pub mod Examples

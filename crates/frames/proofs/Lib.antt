@@ -1,0 +1,4 @@
+pub mod Words
+pub mod Quiet
+pub mod Apart
+pub mod Unique

@@ -1,0 +1,26 @@
+-- What a reader of frames may rely on, for any number of words.
+use Prim.Native.Nat.{ℕ, _+_, _*_, _<_}
+use mathlib.Core.Path.{_≡_}
+use mathlib.Core.Bool.{true}
+use mathlib.Core.List.{List, [], _∷_, _++_, map}
+use lib.ListN.{length}
+use Rattle.frames.specs.Frames.{dataOctet, controlCharacter, Character, upToEnd, dataOctets, isGood, Frame, framesOf}
+
+-- A frame has its Start at character 4 x its word number, and its characters right after it. Each is over before any later one begins: the frames
+-- stand in the order of their word numbers, each once, and no two overlap.
+abbrev pub OverBefore : Frame → List Frame → Type 0
+OverBefore f [] = Unit
+OverBefore f (g ∷ gs) = (4 * f .word + length (f .characters) < 4 * g .word) × OverBefore f gs
+
+abbrev pub InOrder : List Frame → Type 0
+InOrder [] = Unit
+InOrder (f ∷ fs) = OverBefore f fs × InOrder fs
+
+abbrev pub FramesApart : Type 0
+FramesApart = (words : List (List ℕ)) → InOrder (framesOf words)
+
+-- a frame that is good is its data octets and then Terminate: it has no error character
+abbrev pub GoodFrames : Type 0
+GoodFrames =
+    (after : List Character) → isGood (upToEnd after) ≡ true
+    → upToEnd after ≡ map dataOctet (dataOctets (upToEnd after)) ++ (controlCharacter 0xfd ∷ [])

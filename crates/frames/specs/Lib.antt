@@ -1,0 +1,4 @@
+pub mod Frames
+pub mod Words
+pub mod Examples
+pub mod Apart
