@@ -1,19 +1,20 @@
--- How large an answer can be. Assumes nothing.
+-- The verdict on a list of vectors, as callers use it, and how large an answer can be. Assumes nothing.
 use Prim.Native.Nat.{ℕ, zero, suc, _+_, _*_, _/_, _%_, _≤_}
 use mathlib.Core.Path.{_≡_, refl, ap}
 use mathlib.Core.Bool.{Bool, true, false, cond, not, _&&_}
 use mathlib.Core.List.{List, [], _∷_, _++_}
+use mathlib.Core.Logic.{_⊎_, inl, inr, ⊎-elim}
 use native.Mathlib.Omega.{arith}
 use lib.Dec.{ltb, eqb}
 use lib.ListN.{length, drop}
 use borrow.Author.Tests.{ltb-true, ltb-false}
-use Rattle.refusals.specs.First.{first}
+use Rattle.refusals.specs.First.{check, checkAt, Verdict, accepted, refused, first, byVerdict}
 use Rattle.control_bytes.specs.Control.{highControl}
 use Rattle.frames.specs.Frames.{wordsIn, wordList, quiet, starts, upToEnd, afterStart, framesFrom}
-use Rattle.frame_list.specs.Answer.{framesNumber, listed, refused, listChecks, listAnswer}
-use Rattle.refusals.proofs.Laws.{by-test}
+use Rattle.frame_list.specs.Answer.{framesNumber, listed, ListAnswer, listChecks, listAnswer}
+use Rattle.frame_list.specs.Answer as Answer
 
--- At most one frame begins in a word.
+-- at most one frame begins in a word
 frames-most : (before : Bool) (k : ℕ) (ws : List (List ℕ)) → length (framesFrom before k ws) ≤ length ws
 unfolding framesFrom
 frames-most before k [] = omega arith
@@ -32,23 +33,36 @@ words-number (suc k) bytes = ap suc (words-number k (drop 5 bytes))
 pub number-most : (bytes : List ℕ) → framesNumber bytes ≤ length bytes / 5
 number-most bytes = omega (arith, frames-most false 0 (wordList bytes), words-number (length bytes / 5) bytes)
 
--- The number of frames, and the place of a refusal, are at most the most bytes.
-pub listed-small : (bytes : List ℕ) (room n : ℕ) → listAnswer bytes room ≡ listed n → n ≤ 1000000
-unfolding listAnswer listChecks first
-listed-small bytes room n e =
-    by-test (ltb 1000000 (length bytes)) (λ a. let z : _≡_ {A = ℕ} 0 1 = (let f = simp a at e in cc) in absurd (omega arith))
-    (λ a. by-test (not (eqb (length bytes % 40) 0)) (λ b. let z : _≡_ {A = ℕ} 0 1 = (let f = simp (a, b) at e in cc) in absurd (omega arith))
-    (λ b. by-test (ltb (highControl bytes) (length bytes)) (λ c. let z : _≡_ {A = ℕ} 0 1 = (let f = simp (a, b, c) at e in cc) in absurd (omega arith))
-    (λ c. by-test (ltb room (12 * framesNumber bytes)) (λ d. let z : _≡_ {A = ℕ} 0 1 = (let f = simp (a, b, c, d) at e in cc) in absurd (omega arith))
-    (λ d. let m : framesNumber bytes ≡ n = (let f = simp (a, b, c, d) at e in cc) in omega (arith, number-most bytes, ltb-false 1000000 (length bytes) a)))))
+-- ---- the verdict
 
-pub refused-small : (bytes : List ℕ) (room number place : ℕ) → listAnswer bytes room ≡ refused number place → place ≤ 1000000
-unfolding listAnswer listChecks first
-refused-small bytes room number place e =
-    by-test (ltb 1000000 (length bytes)) (λ a. let m : 0 ≡ place = (let f = simp a at e in cc) in omega arith)
-    (λ a. by-test (not (eqb (length bytes % 40) 0)) (λ b. let m : 0 ≡ place = (let f = simp (a, b) at e in cc) in omega arith)
-    (λ b. by-test (ltb (highControl bytes) (length bytes))
-    (λ c. let m : highControl bytes ≡ place = (let f = simp (a, b, c) at e in cc) in omega (arith, ltb-true (highControl bytes) (length bytes) c, ltb-false 1000000 (length bytes) a))
-    (λ c. by-test (ltb room (12 * framesNumber bytes))
-    (λ d. let m : framesNumber bytes ≡ place = (let f = simp (a, b, c, d) at e in cc) in omega (arith, number-most bytes, ltb-false 1000000 (length bytes) a))
-    (λ d. let z : _≡_ {A = ℕ} 0 1 = (let f = simp (a, b, c, d) at e in cc) in absurd (omega arith)))))
+-- an answer tells it
+abbrev pub verdictOfList : ListAnswer → Verdict
+verdictOfList (listed frames) = accepted
+verdictOfList (Answer.refused number place) = refused number place
+
+told : (v : Verdict) (n : ℕ) → verdictOfList (byVerdict v (listed n) Answer.refused) ≡ v
+told accepted n = refl
+told (refused m p) n = refl
+
+pub verdict-told : (bytes : List ℕ) (list : ℕ) → verdictOfList (listAnswer bytes list) ≡ first (listChecks bytes list)
+unfolding listAnswer
+verdict-told bytes list = told (first (listChecks bytes list)) (framesNumber bytes)
+
+-- a refusal's place is 0, or that of a control byte, or the number of frames
+refusal-place : (a b c d : Bool) (h f n p : ℕ) → first (check 1 a ∷ check 2 b ∷ checkAt 5 h c ∷ checkAt 4 f d ∷ []) ≡ refused n p
+    → (p ≡ 0) ⊎ (((a ≡ false) × (c ≡ true) × (h ≡ p)) ⊎ ((a ≡ false) × (f ≡ p)))
+unfolding first
+refusal-place true b c d h f n p q = inl cc
+refusal-place false true c d h f n p q = inl cc
+refusal-place false false true d h f n p q = inr (inl (refl, refl, cc))
+refusal-place false false false true h f n p q = inr (inr (refl, cc))
+refusal-place false false false false h f n p q = inl cc
+
+pub place-small : (bytes : List ℕ) (list n p : ℕ) → first (listChecks bytes list) ≡ refused n p → p ≤ 1000000
+unfolding listChecks
+place-small bytes list n p q =
+    ⊎-elim (λ z. omega arith)
+    (⊎-elim (λ t. omega (arith, ltb-false 1000000 (length bytes) (t .0), ltb-true (highControl bytes) (length bytes) (t .1)))
+    (λ t. omega (arith, ltb-false 1000000 (length bytes) (t .0), number-most bytes)))
+    (refusal-place (ltb 1000000 (length bytes)) (not (eqb (length bytes % 40) 0)) (ltb (highControl bytes) (length bytes)) (ltb list (12 * framesNumber bytes))
+    (highControl bytes) (framesNumber bytes) n p q)

@@ -1,0 +1,3 @@
+pub mod Lists
+pub mod Demand1
+pub mod Unique
