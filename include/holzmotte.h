@@ -1,8 +1,9 @@
 /* Holzmotte: the physical coding sublayer of a 10GBASE-R link (IEEE 802.3 Clause 49), from XGMII vectors to line bits and back.
  *
- * Seven functions, proved to do what the project's definitions say for every input: to send, to receive, to begin, go on and close where
- * a line is received in bursts, and to read and write a record of a capture file. They allocate nothing, keep nothing between calls and
- * touch no memory but what is lent to them, their stack and constants of their own, so they may be called from any thread.
+ * Eight functions, proved to do what the project's definitions say for every input: to send, to receive, to begin, go on and close where
+ * a line is received in bursts, to read and write a record of a capture file, and to list the frames of vectors. They allocate nothing,
+ * keep nothing between calls and touch no memory but what is lent to them, their stack and constants of their own, so they may be called
+ * from any thread.
  *
  * Compiling. This file is C11 and C++11. After `make install`: cc -std=c11 app.c -lholzmotte
  * Without it, in the project's folder after `make native`: cc -std=c11 -Iinclude app.c target/native/libholzmotte.a
@@ -12,7 +13,7 @@
  *   - The pointer is not NULL, even where the length is 0: pass the address of anything then.
  *   - All of it is readable memory, and writable where the pointer is not to const; the length is at most PTRDIFF_MAX.
  *   - A slice that is written (line and summary in sending; vectors, summary and counters in receiving; state in bursts; summary or room
- *     with records) overlaps no other slice of the call, nor of a call that runs at the same time.
+ *     with records; list and summary with frames) overlaps no other slice of the call, nor of a call that runs at the same time.
  * Nothing checks these four, and nothing else is asked: no pointer has to be aligned, and every other fault is refused by a number.
  *
  * Bytes. A word is five bytes: a control byte (bit i set when lane i carries a control character; bits 4 to 7 zero), then lanes 0
@@ -24,10 +25,11 @@
  *
  * Result. 0 on success, else refusal number + 256 x place: HOLZMOTTE_NUMBER and HOLZMOTTE_PLACE take it apart. Of several refusals
  * that apply the first is given, in the order that stands at each function. The place is 0 but for refusal 5, where it is the
- * offset in `vectors` of the first control byte above 15, and where a record is read: there it is the head's offset in the file.
+ * offset in `vectors` of the first control byte above 15, where a record is read, the head's offset in the file, and where a list is too
+ * short for the frames, their number.
  *
  * What is written. A success writes exactly the bytes that stand at each function, from the start of the lent slice, and leaves the
- * rest of the slice as it was. A refusal leaves `line`, or `vectors`, `counters` and `state`, or `room`, as they were and writes the
+ * rest of the slice as it was. A refusal leaves `line`, or `vectors`, `counters` and `state`, or `room`, or `list`, as they were and writes the
  * summary's bytes as zeros; where the summary slice is too short for them it stays as it was, whatever the refusal.
  */
 #ifndef HOLZMOTTE_H
@@ -45,9 +47,9 @@ extern "C" {
  * compiled with the header of its library: nothing notices a call with too few parameters, such as every call that was compiled with a
  * header before 0.6.0. */
 #define HOLZMOTTE_VERSION_MAJOR 0
-#define HOLZMOTTE_VERSION_MINOR 8
+#define HOLZMOTTE_VERSION_MINOR 9
 #define HOLZMOTTE_VERSION_PATCH 0
-#define HOLZMOTTE_VERSION "0.8.0"
+#define HOLZMOTTE_VERSION "0.9.0"
 
 /* So much stack is enough for a call. This is tested, not proved. Measured on 64-bit Arm: to send takes up to 1.0 KB, to receive 0.7, a
  * burst 0.6, to close 0.5, to begin and to write a record 0.1, to read one 0.1 (1.0 in the first call of the test). On x86-64: to send and
@@ -68,6 +70,8 @@ extern "C" {
 #define HOLZMOTTE_READ_SUMMARY_BYTES 40
 #define HOLZMOTTE_MAX_RECORD_BODY 65472
 #define HOLZMOTTE_OLD_MAX_RECORD_BODY 4092 /* of phones not yet updated */
+#define HOLZMOTTE_FRAME_BYTES 12
+#define HOLZMOTTE_FRAMES_SUMMARY_BYTES 8
 
 /* The room that sending wants for its line, and receiving for its vectors (also where slips leave fewer vectors than fit). For a burst the
  * third is enough whatever its state is, and for the closing call 10 bytes, which is HOLZMOTTE_BURST_ROOM(0). */
@@ -77,6 +81,9 @@ extern "C" {
 
 /* The bytes of a record: its head and its body. */
 #define HOLZMOTTE_RECORD_BYTES(body_bytes) ((size_t)(body_bytes) + 4)
+
+/* Room for the frames of any list of so many vector bytes. */
+#define HOLZMOTTE_FRAMES_ROOM(vector_bytes) ((size_t)(vector_bytes) / 10 * 12)
 
 /* A start state is below this: 58 bits. */
 #define HOLZMOTTE_START_STATES ((uint64_t)1 << 58)
@@ -488,6 +495,62 @@ uint64_t holzmotte_read_record(const uint8_t *file, size_t file_len, uint64_t pl
  *
  * Refusals, in this order: 7, 8, 2 (kind 1 alone), 4 (room too short). */
 uint64_t holzmotte_write_record(uint64_t kind, const uint8_t *body, size_t body_len, uint64_t wide, uint8_t *room, size_t room_len);
+
+/* Frames: what vectors carry, by Clause 46. The words of a list of vectors are numbered from 0, two to a vector.
+ *
+ *   - A frame begins with Start (fb) in lane 0 of a word, if the word before was four idles or a sequence ordered set (9c in lane 0, and
+ *     data in lanes 1 to 3). Any other Start begins none: in the very first word, after another word, in another lane.
+ *   - It ends at the first later control character that is not an error character (fe). In lanes 1 to 3 of its first word too.
+ *   - It is good where that is Terminate (fd) and no error character came before it; else it is bad. One that is still open at the end of
+ *     the list is bad.
+ *   - Its octets are the data octets after Start, up to its end: six of preamble, the start frame delimiter, and all from addresses to check
+ *     sequence, where it is a frame of Ethernet. Nothing of this is looked at: a good frame may have a wrong check sequence.
+ *
+ * The frames are listed in order, each once, and no two overlap; a good one is its octets and then Terminate, and nothing else. Of a list
+ * of which sending replaced no vector and whose first 64 vectors are of kind C, the vectors that are received have the same frames, with
+ * the same word numbers and characters. HOLZMOTTE_FRAMES_ROOM is room enough for any list. This is proved.
+ *
+ * Word 10 of a receiving summary may count more frames than are listed: it counts the vectors with a Start, whatever stands before them.
+ *
+ * Here `show` gets each frame that was received:
+ *
+ *     static uint64_t show_frames(const uint8_t *vectors, size_t vectors_len, uint8_t *list, size_t list_len)
+ *     {
+ *         uint8_t summary[HOLZMOTTE_FRAMES_SUMMARY_BYTES];
+ *         uint64_t result = holzmotte_frames(vectors, vectors_len, list, list_len, summary, sizeof summary);
+ *         for (uint64_t i = 0; i < holzmotte_word(summary, HOLZMOTTE_FRAMES_NUMBER); i++)
+ *             show(holzmotte_frame(list, i, HOLZMOTTE_FRAME_WORD), holzmotte_frame(list, i, HOLZMOTTE_FRAME_OCTETS),
+ *                  holzmotte_frame(list, i, HOLZMOTTE_FRAME_GOOD));
+ *         return result;
+ *     }
+ *
+ * Vectors are listed in fours. Where those of a capture are not, idles go behind the last: they end a frame that is open there as bad, as the
+ * end of the list does. A list that begins inside a capture does not see the word before its first: begin it one vector earlier. */
+enum holzmotte_frame_number {
+    HOLZMOTTE_FRAME_WORD = 0,   /* the word of its Start */
+    HOLZMOTTE_FRAME_OCTETS = 1, /* how many octets it has */
+    HOLZMOTTE_FRAME_GOOD = 2    /* 1 good, 0 bad */
+};
+
+/* The word of the summary. */
+enum holzmotte_frames_word {
+    HOLZMOTTE_FRAMES_NUMBER = 0 /* how many frames are listed */
+};
+
+/* A number of frame i of a list: 32-bit numbers, least significant byte first, three to a frame. */
+static inline uint32_t holzmotte_frame(const uint8_t *list, size_t i, enum holzmotte_frame_number number)
+{
+    return (uint32_t)holzmotte_number_in(list + HOLZMOTTE_FRAME_BYTES * i + 4 * (size_t)number, 4);
+}
+
+/* Lists the frames of vectors.
+ *
+ *   vectors  read: the list, a multiple of 40 bytes, at most HOLZMOTTE_MAX_VECTOR_BYTES
+ *   list     written: HOLZMOTTE_FRAME_BYTES bytes for each frame
+ *   summary  written: HOLZMOTTE_FRAMES_SUMMARY_BYTES bytes
+ *
+ * Refusals, in this order: 1, 2, 5, 4 (summary too short, with place 0), 4 (list too short, with the number of frames as its place). */
+uint64_t holzmotte_frames(const uint8_t *vectors, size_t vectors_len, uint8_t *list, size_t list_len, uint8_t *summary, size_t summary_len);
 
 #ifdef __cplusplus
 }
