@@ -1,37 +1,31 @@
 -- The verdict on a list of vectors, as callers use it, and how large an answer can be. Assumes nothing.
-use Prim.Native.Nat.{ℕ, zero, suc, _+_, _*_, _/_, _%_, _≤_}
+use Prim.Native.Nat.{ℕ, zero, suc, _*_, _/_, _%_, _≤_}
 use mathlib.Core.Path.{_≡_, refl, ap}
-use mathlib.Core.Bool.{Bool, true, false, cond, not, _&&_}
-use mathlib.Core.List.{List, [], _∷_, _++_}
+use mathlib.Core.Bool.{Bool, true, false, not}
+use mathlib.Core.List.{List, [], _∷_}
 use mathlib.Core.Logic.{_⊎_, inl, inr, ⊎-elim}
 use native.Mathlib.Omega.{arith}
 use lib.Dec.{ltb, eqb}
 use lib.ListN.{length, drop}
-use borrow.Author.Tests.{ltb-true, ltb-false}
+use borrow.Author.Tests.{ltb-true, ltb-false, le-ltb}
 use Rattle.refusals.specs.First.{check, checkAt, Verdict, accepted, refused, first, byVerdict}
 use Rattle.control_bytes.specs.Control.{highControl}
-use Rattle.frames.specs.Frames.{wordsIn, wordList, quiet, starts, upToEnd, afterStart, framesFrom}
+use Rattle.frames.specs.Frames.{wordsIn, wordList}
+use Rattle.frames.proofs.Apart.{few-frames}
 use Rattle.frame_list.specs.Answer.{framesNumber, listed, ListAnswer, listChecks, listAnswer}
+use Rattle.frame_list.specs.Demand1.{RoomEnough}
 use Rattle.frame_list.specs.Answer as Answer
-
--- at most one frame begins in a word
-frames-most : (before : Bool) (k : ℕ) (ws : List (List ℕ)) → length (framesFrom before k ws) ≤ length ws
-unfolding framesFrom
-frames-most before k [] = omega arith
-frames-most before k (w ∷ ws) = go (before && starts w) (frames-most (quiet w) (k + 1) ws)
-  where
-    go : (b : Bool) → length (framesFrom (quiet w) (k + 1) ws) ≤ length ws
-        → length (cond b (record { word = k; characters = upToEnd (afterStart w ws) } ∷ []) [] ++ framesFrom (quiet w) (k + 1) ws) ≤ suc (length ws)
-    go true h = omega arith
-    go false h = omega arith
 
 words-number : (k : ℕ) (bytes : List ℕ) → length (wordsIn k bytes) ≡ k
 unfolding wordsIn
 words-number zero bytes = refl
 words-number (suc k) bytes = ap suc (words-number k (drop 5 bytes))
 
-pub number-most : (bytes : List ℕ) → framesNumber bytes ≤ length bytes / 5
-number-most bytes = omega (arith, frames-most false 0 (wordList bytes), words-number (length bytes / 5) bytes)
+pub number-most : (bytes : List ℕ) → framesNumber bytes ≤ length bytes / 10
+number-most bytes = omega (arith, few-frames (wordList bytes), words-number (length bytes / 5) bytes)
+
+pub room-enough : RoomEnough
+room-enough bytes list h = le-ltb list (12 * framesNumber bytes) (omega (arith, number-most bytes))
 
 -- ---- the verdict
 

@@ -24,8 +24,9 @@ fn begins(before: bool, bytes: &[u8], k: usize) -> usize
     requires { ⌜ k < length (now bytes) / 5 ⌝ }
     ensures { λ r. ⌜ (r ≡ begun before (now (bytes .entry)) k) × (r ≤ 1) ⌝ }
 {
+    let starts = starts_at(bytes, k);
     if before {
-        if starts_at(bytes, k) {
+        if starts {
             return 1;
         }
     }

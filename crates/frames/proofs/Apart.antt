@@ -9,7 +9,7 @@ use lib.ListN.{length}
 use borrow.Author.Tests.{eqb-true, eq-eqb}
 use Rattle.refusals.proofs.Laws.{by-test}
 use Rattle.frames.specs.Frames.{Character, dataOctet, controlCharacter, laneCharacter, charactersOf, is, quiet, starts, endsFrame, upToEnd, dataOctets, isGood, afterStart, Frame, framesFrom}
-use Rattle.frames.specs.Apart.{OverBefore, InOrder, FramesApart, GoodFrames}
+use Rattle.frames.specs.Apart.{OverBefore, InOrder, FramesApart, FewFrames, GoodFrames}
 use Rattle.frames.proofs.Quiet.{and-both, quiet-ends, start-loud}
 
 -- ---- how far a frame reaches
@@ -92,6 +92,39 @@ in-order before k (w ∷ ws) = go (before && starts w) refl (in-order (quiet w) 
 
 pub frames-apart : FramesApart
 frames-apart words = in-order false 0 words
+
+-- ---- at most every second word
+
+abbrev oneFor : Bool → ℕ
+oneFor true = 1
+oneFor false = 0
+
+few : (before : Bool) (k : ℕ) (ws : List (List ℕ)) → 2 * length (framesFrom before k ws) ≤ length ws + oneFor before
+unfolding framesFrom
+few before k [] = omega arith
+few before k (w ∷ ws) = go before (starts w) refl (quiet w) refl (few (quiet w) (k + 1) ws)
+  where
+    go : (b s : Bool) → starts w ≡ s → (q : Bool) → quiet w ≡ q → 2 * length (framesFrom (quiet w) (k + 1) ws) ≤ length ws + oneFor (quiet w)
+        → 2 * length (cond (b && s) (record { word = k; characters = upToEnd (afterStart w ws) } ∷ []) [] ++ framesFrom (quiet w) (k + 1) ws) ≤ suc (length ws) + oneFor b
+    go true true e q f h =
+        let l = start-loud w e in
+        let z : oneFor (quiet w) ≡ 0 = ap oneFor l in
+        omega arith
+    go true false e true f h =
+        let z : oneFor (quiet w) ≡ 1 = ap oneFor f in
+        omega arith
+    go true false e false f h =
+        let z : oneFor (quiet w) ≡ 0 = ap oneFor f in
+        omega arith
+    go false s e true f h =
+        let z : oneFor (quiet w) ≡ 1 = ap oneFor f in
+        omega arith
+    go false s e false f h =
+        let z : oneFor (quiet w) ≡ 0 = ap oneFor f in
+        omega arith
+
+pub few-frames : FewFrames
+few-frames words = omega (arith, few false 0 words)
 
 -- ---- a good frame
 

@@ -1,6 +1,6 @@
 -- The tests of one word, and what they say of a frame that is open there. Assumes nothing.
-use Prim.Native.Nat.{ℕ, _+_, _*_, _/_, _%_, _≤_, _<_}
-use mathlib.Core.Path.{_≡_, refl, sym, ap, _∙_}
+use Prim.Native.Nat.{ℕ, zero, suc, _+_, _*_, _/_, _%_, _≤_, _<_}
+use mathlib.Core.Path.{_≡_, refl, sym, ap, ap₂, _∙_}
 use mathlib.Core.Bool.{Bool, true, false, not, cond, _&&_, _||_, true≢false}
 use mathlib.Core.List.{List}
 use native.Mathlib.Omega.{arith}
@@ -70,7 +70,7 @@ nibble c =
     sum c c₁ c₂ c₃ c₄ n b₀ b₁ b₂ b₃ p q r s t = omega arith
 
 -- all four lanes have control characters
-pub all-control : (w : List ℕ) → getD w 0 0 % 16 ≡ 15
+all-control : (w : List ℕ) → getD w 0 0 % 16 ≡ 15
     → quiet w ≡ (eqb (getD w 1 0) 0x07 && eqb (getD w 2 0) 0x07 && eqb (getD w 3 0) 0x07 && eqb (getD w 4 0) 0x07)
 unfolding quiet
 all-control w h =
@@ -82,7 +82,7 @@ all-control w h =
     rw (a, b, c, d, and-false) (or-false _)
 
 -- lane 0 alone has one
-pub first-control : (w : List ℕ) → getD w 0 0 % 16 ≡ 1 → quiet w ≡ eqb (getD w 1 0) 0x9c
+first-control : (w : List ℕ) → getD w 0 0 % 16 ≡ 1 → quiet w ≡ eqb (getD w 1 0) 0x9c
 unfolding quiet
 first-control w h =
     let n = nibble (getD w 0 0) in
@@ -112,7 +112,7 @@ flags-first c p b d e =
     n ∙ rw (a, b, d, e)
 
 -- otherwise it is not quiet
-pub other-control : (w : List ℕ) → (getD w 0 0 % 16 ≡ 15 → ⊥) → (getD w 0 0 % 16 ≡ 1 → ⊥) → quiet w ≡ false
+other-control : (w : List ℕ) → (getD w 0 0 % 16 ≡ 15 → ⊥) → (getD w 0 0 % 16 ≡ 1 → ⊥) → quiet w ≡ false
 unfolding quiet
 other-control w m n =
     by-test (quiet w)
@@ -137,49 +137,97 @@ other-control w m n =
     n (flags-first (getD w 0 0) a b c d))))
     (λ q. q)
 
--- four bytes are 07 exactly if their number is
-four-sevens : (a b c d : ℕ) → a < 256 → b < 256 → c < 256 → d < 256
-    → eqb (a + b * 256 + c * 65536 + d * 16777216) 0x07070707 ≡ (eqb a 0x07 && eqb b 0x07 && eqb c 0x07 && eqb d 0x07)
-four-sevens a b c d la lb lc ld =
-    by-test (eqb (a + b * 256 + c * 65536 + d * 16777216) 0x07070707)
-    (λ t.
-    let e = eqb-true (a + b * 256 + c * 65536 + d * 16777216) 0x07070707 t in
-    rw (t, eq-eqb a 0x07 (omega arith), eq-eqb b 0x07 (omega arith), eq-eqb c 0x07 (omega arith), eq-eqb d 0x07 (omega arith)))
-    (λ t. by-test (eqb a 0x07 && eqb b 0x07 && eqb c 0x07 && eqb d 0x07)
-    (λ s.
-    let p = and-both _ (eqb d 0x07) s in
-    let q = and-both _ (eqb c 0x07) (p .0) in
-    let r = and-both (eqb a 0x07) (eqb b 0x07) (q .0) in
-    absurd (eqb-false (a + b * 256 + c * 65536 + d * 16777216) 0x07070707 t
-    (omega (arith, eqb-true a 0x07 (r .0), eqb-true b 0x07 (r .1), eqb-true c 0x07 (q .1), eqb-true d 0x07 (p .1)))))
-    (λ s. t ∙ sym s))
-
 -- ---- the tests as the code has them
 
+-- the four flags and the four lanes as one number
+abbrev pub inOne : (flags a b c d : ℕ) → ℕ
+inOne f a b c d = f % 16 + (a + b * 256 + c * 65536 + d * 16777216) * 256
+
+-- five bytes are those of four idles exactly if their number is
+four-idles : (f a b c d : ℕ) → a < 256 → b < 256 → c < 256 → d < 256
+    → eqb (inOne f a b c d) 0x07_0707_070f ≡ (eqb (f % 16) 15 && (eqb a 0x07 && eqb b 0x07 && eqb c 0x07 && eqb d 0x07))
+four-idles f a b c d la lb lc ld =
+    by-test (eqb (inOne f a b c d) 0x07_0707_070f)
+    (λ t.
+    let e = eqb-true (inOne f a b c d) 0x07_0707_070f t in
+    let l : f % 16 < 16 = omega arith in
+    rw (t, eq-eqb (f % 16) 15 (omega arith), eq-eqb a 0x07 (omega arith), eq-eqb b 0x07 (omega arith), eq-eqb c 0x07 (omega arith), eq-eqb d 0x07 (omega arith)))
+    (λ t. by-test (eqb (f % 16) 15 && (eqb a 0x07 && eqb b 0x07 && eqb c 0x07 && eqb d 0x07))
+    (λ s.
+    let o = and-both (eqb (f % 16) 15) _ s in
+    let p = and-both _ (eqb d 0x07) (o .1) in
+    let q = and-both _ (eqb c 0x07) (p .0) in
+    let r = and-both (eqb a 0x07) (eqb b 0x07) (q .0) in
+    absurd (eqb-false (inOne f a b c d) 0x07_0707_070f t
+    (omega (arith, eqb-true (f % 16) 15 (o .0), eqb-true a 0x07 (r .0), eqb-true b 0x07 (r .1), eqb-true c 0x07 (q .1), eqb-true d 0x07 (p .1)))))
+    (λ s. t ∙ sym s))
+
+-- and of a sequence ordered set, by the lowest two
+a-set : (f a b c d : ℕ) → a < 256 → eqb (inOne f a b c d % 65536) 0x9c01 ≡ (eqb (f % 16) 1 && eqb a 0x9c)
+a-set f a b c d la =
+    let l : f % 16 < 16 = omega arith in
+    let e : inOne f a b c d % 65536 ≡ f % 16 + a * 256 = low-two (f % 16) a b c d l la in
+    ap (λ (n : ℕ). eqb n 0x9c01) e ∙ two (f % 16) l
+  where
+    low-two : (n a b c d : ℕ) → n < 16 → a < 256 → (n + (a + b * 256 + c * 65536 + d * 16777216) * 256) % 65536 ≡ n + a * 256
+    low-two n a b c d l m =
+        let q : n + (a + b * 256 + c * 65536 + d * 16777216) * 256 ≡ n + a * 256 + 65536 * (b + c * 256 + d * 65536) = omega arith in
+        omega (arith, q)
+
+    two : (n : ℕ) → n < 16 → eqb (n + a * 256) 0x9c01 ≡ (eqb n 1 && eqb a 0x9c)
+    two n l =
+        by-test (eqb (n + a * 256) 0x9c01)
+        (λ t. let e = eqb-true (n + a * 256) 0x9c01 t in rw (t, eq-eqb n 1 (omega arith), eq-eqb a 0x9c (omega arith)))
+        (λ t. by-test (eqb n 1 && eqb a 0x9c)
+        (λ s. let p = and-both (eqb n 1) (eqb a 0x9c) s in absurd (eqb-false (n + a * 256) 0x9c01 t (omega (arith, eqb-true n 1 (p .0), eqb-true a 0x9c (p .1)))))
+        (λ s. t ∙ sym s))
+
+-- a word is quiet by one of the two
+quiet-is : (w : List ℕ)
+    → quiet w
+    ≡ (eqb (getD w 0 0 % 16) 15 && (eqb (getD w 1 0) 0x07 && eqb (getD w 2 0) 0x07 && eqb (getD w 3 0) 0x07 && eqb (getD w 4 0) 0x07)
+    || eqb (getD w 0 0 % 16) 1 && eqb (getD w 1 0) 0x9c)
+quiet-is w =
+    by-test (eqb (getD w 0 0 % 16) 15)
+    (λ t.
+    let e = eqb-true (getD w 0 0 % 16) 15 t in
+    let n = ne-eqb (getD w 0 0 % 16) 1 (λ o. omega arith) in
+    all-control w e ∙ sym (rw (t, n) (or-false _)))
+    (λ t. by-test (eqb (getD w 0 0 % 16) 1)
+    (λ u. first-control w (eqb-true (getD w 0 0 % 16) 1 u) ∙ sym (rw (t, u)))
+    (λ u. other-control w (eqb-false (getD w 0 0 % 16) 15 t) (eqb-false (getD w 0 0 % 16) 1 u) ∙ sym (rw (t, u))))
+
 module _ (bytes : List ℕ) (k : ℕ) where
-  pub idles-at : ((i : ℕ) → getD bytes i 0 < 256) → (lanes : ℕ) → lanes ≡ number 32 (λ i. lineBit bytes (8 * (5 * k + 1) + i))
-      → getD bytes (5 * k) 0 % 16 ≡ 15 → eqb lanes 0x07070707 ≡ quiet (nthWord bytes k)
-  unfolding bytesAt
-  idles-at small lanes l h =
-      let n : lanes ≡ getD bytes (5 * k + 1) 0 + getD bytes (5 * k + 2) 0 * 256 + getD bytes (5 * k + 3) 0 * 65536 + getD bytes (5 * k + 4) 0 * 16777216 =
-      l ∙ sym (bytesAt-number bytes small (5 * k + 1) 4)
-      ∙ (let a : 5 * k + 1 + 0 ≡ 5 * k + 1 = omega arith in
-      let b : 5 * k + 1 + 1 ≡ 5 * k + 2 = omega arith in
-      let c : 5 * k + 1 + 2 ≡ 5 * k + 3 = omega arith in
-      let d : 5 * k + 1 + 3 ≡ 5 * k + 4 = omega arith in
-      rw (a, b, c, d) (omega arith)) in
-      ap (λ (m : ℕ). eqb m 0x07070707) n
-      ∙ four-sevens _ _ _ _ (small (5 * k + 1)) (small (5 * k + 2)) (small (5 * k + 3)) (small (5 * k + 4))
-      ∙ sym (all-control (nthWord bytes k) (rw (word-first bytes k) h)
-      ∙ rw (word-byte bytes k 1 (omega arith), word-byte bytes k 2 (omega arith), word-byte bytes k 3 (omega arith), word-byte bytes k 4 (omega arith)))
+  -- a word as the code has it: its control byte, and its lanes
+  abbrev Loaded : (control lanes word : ℕ) → Type 0
+  Loaded control lanes word =
+      (control ≡ getD bytes (5 * k) 0) × (lanes ≡ number 32 (λ i. lineBit bytes (8 * (5 * k + 1) + i))) × (word ≡ control % 16 + lanes * 256)
 
-  pub set-at : getD bytes (5 * k) 0 % 16 ≡ 1 → eqb (getD bytes (5 * k + 1) 0) 0x9c ≡ quiet (nthWord bytes k)
-  set-at h = sym (first-control (nthWord bytes k) (rw (word-first bytes k) h) ∙ rw (word-byte bytes k 1 (omega arith)))
+  module _ (small : (i : ℕ) → getD bytes i 0 < 256) (control lanes word : ℕ) (l : Loaded control lanes word) where
+    in-one : word ≡ inOne (getD bytes (5 * k) 0) (getD bytes (5 * k + 1) 0) (getD bytes (5 * k + 2) 0) (getD bytes (5 * k + 3) 0) (getD bytes (5 * k + 4) 0)
+    unfolding bytesAt
+    in-one =
+        let a : 5 * k + 1 + 0 ≡ 5 * k + 1 = omega arith in
+        let b : 5 * k + 1 + 1 ≡ 5 * k + 2 = omega arith in
+        let c : 5 * k + 1 + 2 ≡ 5 * k + 3 = omega arith in
+        let d : 5 * k + 1 + 3 ≡ 5 * k + 4 = omega arith in
+        let n : bytesAt bytes (5 * k + 1) 4
+            ≡ getD bytes (5 * k + 1) 0 + getD bytes (5 * k + 2) 0 * 256 + getD bytes (5 * k + 3) 0 * 65536 + getD bytes (5 * k + 4) 0 * 16777216 =
+        rw (a, b, c, d) (omega arith) in
+        l .2 ∙ ap₂ (λ (x y : ℕ). x % 16 + y * 256) (l .0) (l .1 ∙ sym (bytesAt-number bytes small (5 * k + 1) 4) ∙ n)
 
-  pub other-at : (getD bytes (5 * k) 0 % 16 ≡ 15 → ⊥) → (getD bytes (5 * k) 0 % 16 ≡ 1 → ⊥) → eqb (getD bytes (5 * k) 0 % 16) 1 ≡ quiet (nthWord bytes k)
-  other-at m n =
-      ne-eqb (getD bytes (5 * k) 0 % 16) 1 n
-      ∙ sym (other-control (nthWord bytes k) (λ e. m (ap (λ (x : ℕ). x % 16) (sym (word-first bytes k)) ∙ e)) (λ e. n (ap (λ (x : ℕ). x % 16) (sym (word-first bytes k)) ∙ e)))
+    quiet-by : (eqb word 0x07_0707_070f || eqb (word % 65536) 0x9c01) ≡ quiet (nthWord bytes k)
+    quiet-by =
+        ap (λ (n : ℕ). eqb n 0x07_0707_070f || eqb (n % 65536) 0x9c01) in-one
+        ∙ ap₂ _||_ (four-idles _ _ _ _ _ (small (5 * k + 1)) (small (5 * k + 2)) (small (5 * k + 3)) (small (5 * k + 4))) (a-set _ _ _ _ _ (small (5 * k + 1)))
+        ∙ sym (quiet-is (nthWord bytes k)
+        ∙ rw (word-first bytes k, word-byte bytes k 1 (omega arith), word-byte bytes k 2 (omega arith), word-byte bytes k 3 (omega arith), word-byte bytes k 4 (omega arith)))
+
+    pub idles-at : word ≡ 0x07_0707_070f → eqb word 0x07_0707_070f ≡ quiet (nthWord bytes k)
+    idles-at e = eq-eqb word 0x07_0707_070f e ∙ ap (λ (b : Bool). b || eqb (word % 65536) 0x9c01) (sym (eq-eqb word 0x07_0707_070f e)) ∙ quiet-by
+
+    pub set-at : (word ≡ 0x07_0707_070f → ⊥) → eqb (word % 65536) 0x9c01 ≡ quiet (nthWord bytes k)
+    set-at n = ap (λ (b : Bool). b || eqb (word % 65536) 0x9c01) (sym (ne-eqb word 0x07_0707_070f n)) ∙ quiet-by
 
   -- the character in a lane, by its bytes
   pub lane-zero : laneCharacter (nthWord bytes k) 0 ≡ byFlag (getD bytes (5 * k) 0 % 2) (getD bytes (5 * k + 1) 0)
@@ -196,15 +244,21 @@ module _ (bytes : List ℕ) (k : ℕ) where
   pub lane-three : laneCharacter (nthWord bytes k) 3 ≡ byFlag (getD bytes (5 * k) 0 / 8 % 2) (getD bytes (5 * k + 4) 0)
   lane-three = rw (word-first bytes k, word-byte bytes k 4 (omega arith))
 
-  pub starts-yes : getD bytes (5 * k) 0 % 2 ≡ 1 → eqb (getD bytes (5 * k + 1) 0) 0xfb ≡ starts (nthWord bytes k)
+  pub starts-by : (control octet : ℕ) → octet < 256 → control ≡ getD bytes (5 * k) 0 → octet ≡ getD bytes (5 * k + 1) 0
+      → eqb (control % 2 + octet * 256) 0xfb01 ≡ starts (nthWord bytes k)
   unfolding starts
-  starts-yes h = sym (ap (is 0xfb) lane-zero ∙ rw h)
-
-  pub starts-no : (getD bytes (5 * k) 0 % 2 ≡ 1 → ⊥) → eqb (getD bytes (5 * k) 0 % 2) 1 ≡ starts (nthWord bytes k)
-  unfolding starts
-  starts-no h =
-      let z : getD bytes (5 * k) 0 % 2 ≡ 0 = omega arith in
-      ne-eqb (getD bytes (5 * k) 0 % 2) 1 h ∙ sym (ap (is 0xfb) lane-zero ∙ rw z)
+  starts-by control octet l c o =
+      by-flag (control % 2) octet l (omega arith)
+      ∙ sym (ap (is 0xfb) (lane-zero ∙ ap₂ byFlag (ap (λ (n : ℕ). n % 2) (sym c)) (sym o)))
+    where
+      by-flag : (f o : ℕ) → o < 256 → f < 2 → eqb (f + o * 256) 0xfb01 ≡ is 0xfb (byFlag f o)
+      by-flag zero o l m =
+          ne-eqb (0 + o * 256) 0xfb01 (λ e. omega arith)
+      by-flag (suc zero) o l m =
+          by-test (eqb o 0xfb)
+          (λ t. let e = eqb-true o 0xfb t in rw t (eq-eqb (1 + o * 256) 0xfb01 (omega arith)))
+          (λ t. rw t (ne-eqb (1 + o * 256) 0xfb01 (λ e. eqb-false o 0xfb t (omega arith))))
+      by-flag (suc (suc f)) o l m = absurd (omega arith)
 
 -- ---- a frame that is open at a word
 

@@ -1,5 +1,5 @@
 -- What a reader of frames may rely on, for any number of words.
-use Prim.Native.Nat.{ℕ, _+_, _*_, _<_}
+use Prim.Native.Nat.{ℕ, _+_, _*_, _<_, _≤_}
 use mathlib.Core.Path.{_≡_}
 use mathlib.Core.Bool.{true}
 use mathlib.Core.List.{List, [], _∷_, _++_, map}
@@ -19,7 +19,11 @@ InOrder (f ∷ fs) = OverBefore f fs × InOrder fs
 abbrev pub FramesApart : Type 0
 FramesApart = (words : List (List ℕ)) → InOrder (framesOf words)
 
--- a frame that is good is its data octets and then Terminate: it has no error character
+-- At most every second word begins a frame.
+abbrev pub FewFrames : Type 0
+FewFrames = (words : List (List ℕ)) → 2 * length (framesOf words) ≤ length words
+
+-- A frame that is good is its data octets and then Terminate: it has no error character
 abbrev pub GoodFrames : Type 0
 GoodFrames =
     (after : List Character) → isGood (upToEnd after) ≡ true

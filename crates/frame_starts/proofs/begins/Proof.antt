@@ -9,10 +9,10 @@ starts-at-requires : tie.Need-starts-at-requires
 starts-at-requires c κs = search needs
 
 returns : tie.Need-returns
-returns c = (rw (c .before .before .if1 .taken, sym (c .before .starts-at .ensures) ∙ c .if2 .taken), omega arith)
+returns c = (rw (c .before .if1 .taken, sym (c .before .before .starts-at .ensures) ∙ c .if2 .taken), omega arith)
 
 returns-2 : tie.Need-returns-2
-returns-2 c = (rw (c .before .before .if1 .taken, sym (c .before .starts-at .ensures) ∙ c .if2 .left), omega arith)
+returns-2 c = (rw (c .before .if1 .taken, sym (c .before .before .starts-at .ensures) ∙ c .if2 .left), omega arith)
 
 returns-3 : tie.Need-returns-3
 returns-3 c = (rw (c .if1 .left), omega arith)

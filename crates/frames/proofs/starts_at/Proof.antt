@@ -1,6 +1,6 @@
 -- `frames::starts_at` meets its contract. Assumes nothing.
-use Rattle.frames.proofs.Quiet.{starts-yes, starts-no}
 use denote.Ref.{now}
+use Rattle.frames.proofs.Quiet.{starts-by}
 use borrow.Author.Needs.{needs}
 use Rattle.frames.proofs.starts_at.Statement.{statement}
 use Rattle.frames.proofs.starts_at.Tie as tie
@@ -8,22 +8,40 @@ use Rattle.frames.proofs.starts_at.Tie as tie
 mul-at : tie.Need-mul-at
 mul-at c = search needs
 
-shared-slice-read-if1 : tie.Need-shared-slice-read-if1
-shared-slice-read-if1 c = search needs
+shared-slice-read-wide : tie.Need-shared-slice-read-wide
+shared-slice-read-wide c = search needs
+
+wide-requires : tie.Need-wide-requires
+wide-requires c κs = search needs
+
+add-wide : tie.Need-add-wide
+add-wide c = search needs
+
+shared-slice-read-wide-2 : tie.Need-shared-slice-read-wide-2
+shared-slice-read-wide-2 c = search needs
+
+wide-requires-2 : tie.Need-wide-requires-2
+wide-requires-2 c κs = search needs
+
+mul-result : tie.Need-mul-result
+mul-result c = search needs
 
 add-result : tie.Need-add-result
 add-result c = search needs
 
-shared-slice-read-result : tie.Need-shared-slice-read-result
-shared-slice-read-result c = search needs
-
 returns : tie.Need-returns
-returns c = starts-yes (now (c .before .before .before .args .bytes)) (c .before .before .before .args .k) (c .before .if1 .taken)
-
-returns-2 : tie.Need-returns-2
-returns-2 c = starts-no (now (c .before .before .args .bytes)) (c .before .before .args .k) (c .if1 .left)
+returns c = starts-by (now (c .before .before .before .before .before .args .bytes)) (c .before .before .before .before .before .args .k) (c .before .before .wide .result) (c .wide2 .result) (c .wide2 .ensures .1) (c .before .before .wide .ensures .0) (c .wide2 .ensures .0)
 
 pub starts-at-spec : {M : Type 1} → statement M
 starts-at-spec =
     tie.close
-    (tie.spec mul-at shared-slice-read-if1 add-result shared-slice-read-result returns returns-2)
+    (tie.spec
+    mul-at
+    shared-slice-read-wide
+    wide-requires
+    add-wide
+    shared-slice-read-wide-2
+    wide-requires-2
+    mul-result
+    add-result
+    returns)
