@@ -1,13 +1,13 @@
 -- The verdict on a list of vectors, as callers use it, and how large an answer can be. Assumes nothing.
-use Prim.Native.Nat.{ℕ, zero, suc, _*_, _/_, _%_, _≤_}
+use Prim.Native.Nat.{ℕ, zero, suc, _*_, _/_, _%_, _<_, _≤_}
 use mathlib.Core.Path.{_≡_, refl, ap}
-use mathlib.Core.Bool.{Bool, true, false, not}
+use mathlib.Core.Bool.{Bool, true, false, cond, not}
 use mathlib.Core.List.{List, [], _∷_}
 use mathlib.Core.Logic.{_⊎_, inl, inr, ⊎-elim}
 use native.Mathlib.Omega.{arith}
 use lib.Dec.{ltb, eqb}
 use lib.ListN.{length, drop}
-use borrow.Author.Tests.{ltb-true, ltb-false, le-ltb}
+use borrow.Author.Tests.{ltb-true, ltb-false, lt-ltb, le-ltb}
 use Rattle.refusals.specs.First.{check, checkAt, Verdict, accepted, refused, first, byVerdict}
 use Rattle.control_bytes.specs.Control.{highControl}
 use Rattle.frames.specs.Frames.{wordsIn, wordList}
@@ -26,6 +26,24 @@ number-most bytes = omega (arith, few-frames (wordList bytes), words-number (len
 
 pub room-enough : RoomEnough
 room-enough bytes list h = le-ltb list (12 * framesNumber bytes) (omega (arith, number-most bytes))
+
+-- ---- counting only where a list may be too small
+
+module _ (bytes : List ℕ) (list frames : ℕ) (e : frames ≡ cond (ltb (list / 12) (length bytes / 10)) (framesNumber bytes) 0) where
+  -- it is too small exactly for the number that is then counted
+  pub counted-small : list < 12 * frames → (frames ≡ framesNumber bytes) × (ltb list (12 * framesNumber bytes) ≡ true)
+  counted-small h = go (ltb (list / 12) (length bytes / 10)) e
+    where
+      go : (b : Bool) → frames ≡ cond b (framesNumber bytes) 0 → (frames ≡ framesNumber bytes) × (ltb list (12 * framesNumber bytes) ≡ true)
+      go true f = (f, lt-ltb list (12 * framesNumber bytes) (omega arith))
+      go false f = absurd (omega arith)
+
+  pub counted-room : 12 * frames ≤ list → ltb list (12 * framesNumber bytes) ≡ false
+  counted-room h = go (ltb (list / 12) (length bytes / 10)) refl e
+    where
+      go : (b : Bool) → ltb (list / 12) (length bytes / 10) ≡ b → frames ≡ cond b (framesNumber bytes) 0 → ltb list (12 * framesNumber bytes) ≡ false
+      go true t f = le-ltb list (12 * framesNumber bytes) (omega arith)
+      go false t f = room-enough bytes list (omega (arith, ltb-false (list / 12) (length bytes / 10) t))
 
 -- ---- the verdict
 

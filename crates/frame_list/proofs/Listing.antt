@@ -130,7 +130,7 @@ lists-none bytes l = record { later = omega arith; within = omega arith; more = 
 
 -- After the last word all frames are in the list.
 pub lists-all : (bytes l m : List ℕ) (r : Reached) → ListsOn bytes 0 0 l r m → length bytes / 5 ≤ r .word
-    → m ≡ entries (framesIn bytes) ++ drop (length (entries (framesIn bytes))) l
+    → (r .entries ≡ framesNumber bytes) × (m ≡ entries (framesIn bytes) ++ drop (length (entries (framesIn bytes))) l)
 unfolding entries
 lists-all bytes l m r p h =
     let e = left-end bytes (r .word) h in
@@ -140,4 +140,4 @@ lists-all bytes l m r p h =
     let t : take (12 * r .entries) m ≡ entries (framesIn bytes) =
     sym (append-nil (take (12 * r .entries) m)) ∙ ap (λ (fs : List Frame). take (12 * r .entries) m ++ entries fs) (sym e) ∙ sym (p .same) ∙ ap (λ (fs : List Frame). entries fs) a in
     let o : 12 * r .entries ≡ length (entries (framesIn bytes)) = ap (λ (i : ℕ). 12 * i) n ∙ sym (entries-length (framesIn bytes)) in
-    sym (take-append-drop (12 * r .entries) m) ∙ rw (t, sym (p .rest), o)
+    (n, sym (take-append-drop (12 * r .entries) m) ∙ rw (t, sym (p .rest), o))

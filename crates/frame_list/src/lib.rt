@@ -7,9 +7,10 @@ use lent_words::flag;
 use line::store_half;
 use refusals::Refusal;
 ghost use mathlib.Core.Path.{_≡_};
-ghost use mathlib.Core.Bool.{true, _&&_};
+ghost use mathlib.Core.Bool.{true, cond, _&&_};
 ghost use mathlib.Core.List.{[], _∷_, _++_};
 ghost use Prim.Native.Nat.{_+_, _*_, _/_, _<_, _≤_};
+ghost use lib.Dec.{ltb};
 ghost use lib.ListN.{length, take, drop};
 ghost use Rattle.lent_words.specs.Words.{wordBytes, flagWord};
 ghost use Rattle.frames.specs.Frames.{starts};
@@ -72,10 +73,10 @@ fn inside(bytes: &[u8], list: &mut [u8], k: usize, n: usize, turns: usize) -> Re
     between(bytes, list, next, n + 1, turns - 1)
 }
 
-// All frames, listed from the start of the list.
-fn list_all(bytes: &[u8], list: &mut [u8])
+// All frames, listed from the start of the list; how many they are.
+fn list_all(bytes: &[u8], list: &mut [u8]) -> usize
     requires { ⌜ (length (now bytes) ≤ 1000000) × (12 * framesNumber (now bytes) ≤ length (now list)) ⌝ }
-    ensures { λ _. ⌜ now (list .exit) ≡ entries (framesIn (now (bytes .entry))) ++ drop (length (entries (framesIn (now (bytes .entry))))) (now (list .entry)) ⌝ }
+    ensures { λ r. ⌜ (r ≡ framesNumber (now (bytes .entry))) × (now (list .exit) ≡ entries (framesIn (now (bytes .entry))) ++ drop (length (entries (framesIn (now (bytes .entry))))) (now (list .entry))) ⌝ }
 {
     let words = bytes.len() / 5;
     let mut r = Reached {
@@ -85,6 +86,17 @@ fn list_all(bytes: &[u8], list: &mut [u8])
     while r.word < words {
         r = between(bytes, list, r.word, r.entries, 31);
     }
+    r.entries
+}
+
+// The number of frames, for a list of so many bytes. One with 12 bytes for each vector has room for all, and they need not be counted: 0.
+fn counted(bytes: &[u8], list: usize) -> usize
+    ensures { λ r. ⌜ (r ≡ cond (ltb (list / 12) (length (now (bytes .entry)) / 10)) (framesNumber (now (bytes .entry))) 0) × (r ≤ length (now (bytes .entry)) / 5) ⌝ }
+{
+    if list / 12 < bytes.len() / 10 {
+        return count(bytes);
+    }
+    0
 }
 
 // Lists the frames of a list of vectors, 12 bytes a frame, at the start of the lent list.
@@ -102,10 +114,9 @@ pub fn list(vectors: &[u8], list: &mut [u8]) -> Listed
     if high < n {
         return Listed::Refused(Refusal::ControlByte, high);
     }
-    let frames = count(vectors);
+    let frames = counted(vectors, list.len());
     if list.len() < 12 * frames {
         return Listed::Refused(Refusal::Room, frames);
     }
-    list_all(vectors, list);
-    Listed::Done(frames)
+    Listed::Done(list_all(vectors, list))
 }

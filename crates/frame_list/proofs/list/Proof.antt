@@ -1,14 +1,13 @@
 -- `frame_list::list` meets its contract. Assumes nothing.
-use Prim.Native.Nat.{_*_}
-use mathlib.Core.Path.{_≡_, sym}
-use mathlib.Core.Bool.{false}
+use Prim.Native.Nat.{ℕ, _*_}
+use mathlib.Core.Path.{sym, ap}
 use lib.ListN.{length}
-use lib.Dec.{ltb}
 use denote.Ref.{now}
 use native.Mathlib.Omega.{arith}
-use borrow.Author.Tests.{le-ltb, lt-ltb, eq-eqb, ne-eqb}
+use borrow.Author.Tests.{le-ltb, lt-ltb, ltb-false, eq-eqb, ne-eqb}
 use Rattle.refusals.specs.First.{first}
-use Rattle.frame_list.specs.Answer.{framesNumber, listChecks, listAnswer, listAfter}
+use Rattle.frame_list.specs.Answer.{framesNumber, listed, refused, listChecks, listAnswer, listAfter}
+use Rattle.frame_list.proofs.Answers.{counted-small, counted-room}
 use borrow.Author.Needs.{needs}
 use Rattle.frame_list.proofs.list.Statement.{statement}
 use Rattle.frame_list.proofs.list.Tie as tie
@@ -38,8 +37,8 @@ returns-3 c =
     let f = lt-ltb _ _ (c .if3 .taken) in
     (simp (a, b, h, f), simp (a, b, h, f))
 
-count-requires : tie.Need-count-requires
-count-requires c κs = search needs
+counted-requires : tie.Need-counted-requires
+counted-requires c κs = search needs
 
 mul-if4 : tie.Need-mul-if4
 mul-if4 c = omega arith
@@ -51,12 +50,13 @@ returns-4 c =
     let b = eq-eqb _ _ (c .before .before .before .before .if2 .left) in
     let h = sym (c .before .before .before .first-high .ensures) in
     let f = le-ltb _ _ (c .before .before .if3 .left) in
-    let n = sym (c .before .count .ensures .0) in
-    let g = lt-ltb _ _ (c .if4 .taken) in
-    (simp (a, b, h, f, n, g), simp (a, b, h, f, n, g))
+    let n = counted-small (now (c .before .before .before .before .before .before .before .before .args .vectors)) (length (now (c .before .before .before .before .before .before .before .before .args .list))) (c .before .counted .result) (c .before .counted .ensures .0) (c .if4 .taken) in
+    (simp (a, b, h, f, n .1) (ap (λ (i : ℕ). refused 4 i) (n .0)), simp (a, b, h, f, n .1))
 
 list-all-requires : tie.Need-list-all-requires
-list-all-requires c κs = (c .before .before .before .before .before .before .if1 .left, omega (arith, c .before .before .count .ensures .0, c .before .if4 .left))
+list-all-requires c κs =
+    let r = counted-room (now (c .before .before .before .before .before .before .before .before .before .args .vectors)) (length (now (c .before .before .before .before .before .before .before .before .before .args .list))) (c .before .before .counted .result) (c .before .before .counted .ensures .0) (c .before .if4 .left) in
+    (c .before .before .before .before .before .before .if1 .left, ltb-false (length (now (c .before .before .before .before .before .before .before .before .before .args .list))) (12 * framesNumber (now (c .before .before .before .before .before .before .before .before .before .args .vectors))) r)
 
 same-length : tie.Need-same-length
 same-length c = search needs
@@ -68,10 +68,8 @@ returns-5 c =
     let b = eq-eqb _ _ (c .before .before .before .before .before .before .before .before .if2 .left) in
     let h = sym (c .before .before .before .before .before .before .before .first-high .ensures) in
     let f = le-ltb _ _ (c .before .before .before .before .before .before .if3 .left) in
-    let n = sym (c .before .before .before .before .before .count .ensures .0) in
-    let g = le-ltb _ _ (c .before .before .before .before .if4 .left) in
-    let k : ltb (length (now (c .before .before .before .before .before .before .before .before .before .before .before .before .args .list))) (12 * framesNumber (now (c .before .before .before .before .before .before .before .before .before .before .before .before .args .vectors))) ≡ false = le-ltb (length (now (c .before .before .before .before .before .before .before .before .before .before .before .before .args .list))) (12 * framesNumber (now (c .before .before .before .before .before .before .before .before .before .before .before .before .args .vectors))) (omega (arith, c .before .before .before .before .before .count .ensures .0, c .before .before .before .before .if4 .left)) in
-    (simp (a, b, h, f, n, g), simp (a, b, h, f, k) (c .before .before .list-all .ensures))
+    let r = counted-room (now (c .before .before .before .before .before .before .before .before .before .before .before .before .args .vectors)) (length (now (c .before .before .before .before .before .before .before .before .before .before .before .before .args .list))) (c .before .before .before .before .before .counted .result) (c .before .before .before .before .before .counted .ensures .0) (c .before .before .before .before .if4 .left) in
+    (simp (a, b, h, f, r) (ap listed (c .before .before .list-all .ensures .0)), simp (a, b, h, f, r) (c .before .before .list-all .ensures .1))
 
 pub list-spec : {M : Type 1} → statement M
 list-spec =
@@ -81,7 +79,7 @@ list-spec =
     returns-2
     first-high-requires
     returns-3
-    count-requires
+    counted-requires
     mul-if4
     returns-4
     list-all-requires
