@@ -62,8 +62,8 @@ fn inside(bytes: &[u8], list: &mut [u8], k: usize, n: usize, turns: usize) -> Re
     ensures { λ r. ⌜ ListsOn (now (bytes .entry)) k n (now (list .entry)) r (now (list .exit)) × (k < length (now (bytes .entry)) / 5 → k < r .word) ⌝ }
 {
     let frame = read_frame(bytes, k);
-    put_entry(list, 12 * n, k, frame.octets, frame.good);
     let next = frame.next;
+    put_entry(list, 12 * n, k, frame.octets, frame.good);
     if turns == 0 {
         return Reached {
             word: next,
