@@ -55,9 +55,12 @@ between-inside-requires : (t : ℕ) → between-lts.Need-inside-requires (
   inside.Post,
 ) (between-at t) between.Post
 between-inside-requires t c κs =
-    let f = c .before .before .next-start .ensures in
+    let pre = c .before .before .before .before .before .pre in
+    let next-start = c .before .before .next-start in
+    let if1 = c .before .if1 in
+    let f = next-start .ensures in
     let e = ap (λ (fs : List Frame). length fs) (f .rest) in
-    (omega (arith, f .later, c .before .before .before .before .before .pre .0), (c .before .if1 .taken, c .before .before .before .before .before .pre .1 .1, omega (arith, c .before .before .before .before .before .pre .1 .2), f .begins (c .before .if1 .taken)))
+    (omega (arith, f .later, pre .0), (if1 .taken, pre .1 .1, omega (arith, pre .1 .2), f .begins (if1 .taken)))
 
 between-same-length : (t : ℕ) → between-lts.Need-same-length (
   next-start-reads.Asked,
@@ -74,8 +77,13 @@ between-returns : (t : ℕ) → between-lts.Need-returns (
   inside.Post,
 ) (between-at t) between.Post
 between-returns t c =
-    let f = c .before .before .before .before .before .next-start .ensures in
-    (lists-skip (now (c .before .before .before .before .before .before .before .before .args .bytes)) (c .before .before .before .before .before .before .before .before .args .k) (c .before .before .before .before .before .before .before .before .args .n) (c .before .before .before .before .before .next-start .result) (now (c .before .before .before .before .before .before .before .before .args .list)) (c .before .before .inside .result) (c .before .before .inside .last .1 .0) f (c .before .before .inside .ensures .0), λ h. omega (arith, f .later, c .before .before .inside .ensures .1 (c .before .before .before .before .if1 .taken)))
+    let args = c .before .before .before .before .before .before .before .before .args in
+    let next-start = c .before .before .before .before .before .next-start in
+    let if1 = c .before .before .before .before .if1 in
+    let inside = c .before .before .inside in
+    let f = next-start .ensures in
+    (lists-skip (now (args .bytes)) (args .k) (args .n) (next-start .result) (now (args .list)) (inside .result) (inside .last .1 .0) f
+    (inside .ensures .0), λ h. omega (arith, f .later, inside .ensures .1 (if1 .taken)))
 
 between-returns-2 : (t : ℕ) → between-lts.Need-returns-2 (
   next-start-reads.Asked,
@@ -84,8 +92,10 @@ between-returns-2 : (t : ℕ) → between-lts.Need-returns-2 (
   inside.Post,
 ) (between-at t) between.Post
 between-returns-2 t c =
-    let f = c .before .next-start .ensures in
-    (lists-stop (now (c .before .before .before .before .args .bytes)) (c .before .before .before .before .args .k) (c .before .before .before .before .args .n) (c .before .next-start .result) (now (c .before .before .before .before .args .list)) f, λ h. omega (arith, f .later, c .if1 .left))
+    let args = c .before .before .before .before .args in
+    let next-start = c .before .next-start in
+    let f = next-start .ensures in
+    (lists-stop (now (args .bytes)) (args .k) (args .n) (next-start .result) (now (args .list)) f, λ h. omega (arith, f .later, c .if1 .left))
 
 inside-read-frame-requires : (t : ℕ) → inside-lts.Need-read-frame-requires (
   read-frame-reads.Asked,
@@ -115,7 +125,10 @@ inside-put-entry-requires : (t : ℕ) → inside-lts.Need-put-entry-requires (
   between-below t,
   between.Post,
 ) (inside-at t) inside.Post
-inside-put-entry-requires t c κs = left-room (now (c .before .before .before .before .args .bytes)) (c .before .before .before .before .args .k) (c .before .before .before .before .args .n) (length (now (c .before .before .before .before .args .list))) (c .before .before .before .before .pre .1 .0) (c .before .before .before .before .pre .1 .3) (c .before .before .before .before .pre .1 .2)
+inside-put-entry-requires t c κs =
+    let args = c .before .before .before .before .args in
+    let pre = c .before .before .before .before .pre in
+    left-room (now (args .bytes)) (args .k) (args .n) (length (now (args .list))) (pre .1 .0) (pre .1 .3) (pre .1 .2)
 
 inside-add-t13 : (t : ℕ) → inside-lts.Need-add-t13 (
   read-frame-reads.Asked,
@@ -145,7 +158,14 @@ inside-returns : (t : ℕ) → inside-lts.Need-returns (
   between-below t,
   between.Post,
 ) (inside-at t) inside.Post
-inside-returns t c = (lists-put (now (c .before .before .before .before .before .before .before .before .args .bytes)) (c .before .before .before .before .before .before .before .before .args .k) (c .before .before .before .before .before .before .before .before .args .n) (now (c .before .before .before .before .before .before .before .before .args .list)) (c .before .before .before .put-entry .last .0) (c .before .before .before .before .before .read-frame .result) (c .before .before .before .before .before .before .before .before .pre .1 .0) (c .before .before .before .before .before .before .before .before .pre .1 .3) (c .before .before .before .before .before .read-frame .ensures) (left-room (now (c .before .before .before .before .before .before .before .before .args .bytes)) (c .before .before .before .before .before .before .before .before .args .k) (c .before .before .before .before .before .before .before .before .args .n) (length (now (c .before .before .before .before .before .before .before .before .args .list))) (c .before .before .before .before .before .before .before .before .pre .1 .0) (c .before .before .before .before .before .before .before .before .pre .1 .3) (c .before .before .before .before .before .before .before .before .pre .1 .2)) (c .before .before .before .put-entry .ensures), λ h. c .before .before .before .before .before .read-frame .ensures .later)
+inside-returns t c =
+    let args = c .before .before .before .before .before .before .before .before .args in
+    let pre = c .before .before .before .before .before .before .before .before .pre in
+    let read-frame = c .before .before .before .before .before .read-frame in
+    let put-entry = c .before .before .before .put-entry in
+    (lists-put (now (args .bytes)) (args .k) (args .n) (now (args .list)) (put-entry .last .0) (read-frame .result) (pre .1 .0) (pre .1 .3)
+    (read-frame .ensures) (left-room (now (args .bytes)) (args .k) (args .n) (length (now (args .list))) (pre .1 .0) (pre .1 .3) (pre .1 .2))
+    (put-entry .ensures), λ h. read-frame .ensures .later)
 
 inside-add-between : (t : ℕ) → inside-lts.Need-add-between (
   read-frame-reads.Asked,
@@ -176,9 +196,13 @@ inside-between-requires : (t : ℕ) → inside-lts.Need-between-requires (
   between.Post,
 ) (inside-at t) inside.Post
 inside-between-requires t c κs =
-    let d = c .before .before .before .before .before .before .read-frame .ensures in
-    let n = left-number (now (c .before .before .before .before .before .before .before .before .before .args .bytes)) (c .before .before .before .before .before .before .before .before .before .args .k) (c .before .before .before .before .before .before .read-frame .result) (c .before .before .before .before .before .before .before .before .before .pre .1 .0) (c .before .before .before .before .before .before .before .before .before .pre .1 .3) d in
-    (omega (arith, d .later, d .within, c .before .before .before .before .before .before .before .before .before .pre .0), (d .within, c .before .before .before .before .before .before .before .before .before .pre .1 .1, omega (arith, c .before .before .before .before .before .before .before .before .before .pre .1 .2, c .before .before .before .before .put-entry .kept .0)))
+    let args = c .before .before .before .before .before .before .before .before .before .args in
+    let pre = c .before .before .before .before .before .before .before .before .before .pre in
+    let read-frame = c .before .before .before .before .before .before .read-frame in
+    let put-entry = c .before .before .before .before .put-entry in
+    let d = read-frame .ensures in
+    let n = left-number (now (args .bytes)) (args .k) (read-frame .result) (pre .1 .0) (pre .1 .3) d in
+    (omega (arith, d .later, d .within, pre .0), (d .within, pre .1 .1, omega (arith, pre .1 .2, put-entry .kept .0)))
 
 inside-same-length-2 : (t : ℕ) → inside-lts.Need-same-length-2 (
   read-frame-reads.Asked,
@@ -199,8 +223,16 @@ inside-returns-2 : (t : ℕ) → inside-lts.Need-returns-2 (
   between.Post,
 ) (inside-at t) inside.Post
 inside-returns-2 t c =
-    let p = lists-put (now (c .before .before .before .before .before .before .before .before .before .before .before .before .args .bytes)) (c .before .before .before .before .before .before .before .before .before .before .before .before .args .k) (c .before .before .before .before .before .before .before .before .before .before .before .before .args .n) (now (c .before .before .before .before .before .before .before .before .before .before .before .before .args .list)) (c .before .before .before .before .before .before .before .put-entry .last .0) (c .before .before .before .before .before .before .before .before .before .read-frame .result) (c .before .before .before .before .before .before .before .before .before .before .before .before .pre .1 .0) (c .before .before .before .before .before .before .before .before .before .before .before .before .pre .1 .3) (c .before .before .before .before .before .before .before .before .before .read-frame .ensures) (left-room (now (c .before .before .before .before .before .before .before .before .before .before .before .before .args .bytes)) (c .before .before .before .before .before .before .before .before .before .before .before .before .args .k) (c .before .before .before .before .before .before .before .before .before .before .before .before .args .n) (length (now (c .before .before .before .before .before .before .before .before .before .before .before .before .args .list))) (c .before .before .before .before .before .before .before .before .before .before .before .before .pre .1 .0) (c .before .before .before .before .before .before .before .before .before .before .before .before .pre .1 .3) (c .before .before .before .before .before .before .before .before .before .before .before .before .pre .1 .2)) (c .before .before .before .before .before .before .before .put-entry .ensures) in
-    (lists-on (now (c .before .before .before .before .before .before .before .before .before .before .before .before .args .bytes)) (c .before .before .before .before .before .before .before .before .before .before .before .before .args .k) (c .before .before .before .before .before .before .before .before .before .before .before .before .args .n) (now (c .before .before .before .before .before .before .before .before .before .before .before .before .args .list)) _ (c .before .before .before .before .before .before .before .put-entry .last .0) (c .before .before .between .result) (c .before .before .between .last .1 .0) p (c .before .before .between .ensures .0), λ h. omega (arith, c .before .before .before .before .before .before .before .before .before .read-frame .ensures .later, c .before .before .between .ensures .0 .later))
+    let args = c .before .before .before .before .before .before .before .before .before .before .before .before .args in
+    let pre = c .before .before .before .before .before .before .before .before .before .before .before .before .pre in
+    let read-frame = c .before .before .before .before .before .before .before .before .before .read-frame in
+    let put-entry = c .before .before .before .before .before .before .before .put-entry in
+    let between = c .before .before .between in
+    let p = lists-put (now (args .bytes)) (args .k) (args .n) (now (args .list)) (put-entry .last .0) (read-frame .result) (pre .1 .0) (pre
+    .1 .3) (read-frame .ensures) (left-room (now (args .bytes)) (args .k) (args .n) (length (now (args .list))) (pre .1 .0) (pre .1 .3)
+    (pre .1 .2)) (put-entry .ensures) in
+    (lists-on (now (args .bytes)) (args .k) (args .n) (now (args .list)) _ (put-entry .last .0) (between .result) (between .last .1 .0)
+    p (between .ensures .0), λ h. omega (arith, read-frame .ensures .later, between .ensures .0 .later))
 
 pub +between+inside-spec : {M : Type 1} → statement M
 +between+inside-spec = close μ-between μ-inside (λ t. between-lts.spec (

@@ -46,17 +46,27 @@ mul-if4 c = omega arith
 returns-4 : tie.Need-returns-4
 unfolding listAnswer listAfter listChecks first
 returns-4 c =
-    let a = le-ltb _ _ (c .before .before .before .before .before .if1 .left) in
-    let b = eq-eqb _ _ (c .before .before .before .before .if2 .left) in
-    let h = sym (c .before .before .before .first-high .ensures) in
-    let f = le-ltb _ _ (c .before .before .if3 .left) in
-    let n = counted-small (now (c .before .before .before .before .before .before .before .before .args .vectors)) (length (now (c .before .before .before .before .before .before .before .before .args .list))) (c .before .counted .result) (c .before .counted .ensures .0) (c .if4 .taken) in
+    let args = c .before .before .before .before .before .before .before .before .args in
+    let if1 = c .before .before .before .before .before .if1 in
+    let if2 = c .before .before .before .before .if2 in
+    let first-high = c .before .before .before .first-high in
+    let if3 = c .before .before .if3 in
+    let counted = c .before .counted in
+    let a = le-ltb _ _ (if1 .left) in
+    let b = eq-eqb _ _ (if2 .left) in
+    let h = sym (first-high .ensures) in
+    let f = le-ltb _ _ (if3 .left) in
+    let n = counted-small (now (args .vectors)) (length (now (args .list))) (counted .result) (counted .ensures .0) (c .if4 .taken) in
     (simp (a, b, h, f, n .1) (ap (λ (i : ℕ). refused 4 i) (n .0)), simp (a, b, h, f, n .1))
 
 list-all-requires : tie.Need-list-all-requires
 list-all-requires c κs =
-    let r = counted-room (now (c .before .before .before .before .before .before .before .before .before .args .vectors)) (length (now (c .before .before .before .before .before .before .before .before .before .args .list))) (c .before .before .counted .result) (c .before .before .counted .ensures .0) (c .before .if4 .left) in
-    (c .before .before .before .before .before .before .if1 .left, ltb-false (length (now (c .before .before .before .before .before .before .before .before .before .args .list))) (12 * framesNumber (now (c .before .before .before .before .before .before .before .before .before .args .vectors))) r)
+    let args = c .before .before .before .before .before .before .before .before .before .args in
+    let if1 = c .before .before .before .before .before .before .if1 in
+    let counted = c .before .before .counted in
+    let if4 = c .before .if4 in
+    let r = counted-room (now (args .vectors)) (length (now (args .list))) (counted .result) (counted .ensures .0) (if4 .left) in
+    (if1 .left, ltb-false (length (now (args .list))) (12 * framesNumber (now (args .vectors))) r)
 
 same-length : tie.Need-same-length
 same-length c = search needs
@@ -64,12 +74,20 @@ same-length c = search needs
 returns-5 : tie.Need-returns-5
 unfolding listAnswer listAfter listChecks first
 returns-5 c =
-    let a = le-ltb _ _ (c .before .before .before .before .before .before .before .before .before .if1 .left) in
-    let b = eq-eqb _ _ (c .before .before .before .before .before .before .before .before .if2 .left) in
-    let h = sym (c .before .before .before .before .before .before .before .first-high .ensures) in
-    let f = le-ltb _ _ (c .before .before .before .before .before .before .if3 .left) in
-    let r = counted-room (now (c .before .before .before .before .before .before .before .before .before .before .before .before .args .vectors)) (length (now (c .before .before .before .before .before .before .before .before .before .before .before .before .args .list))) (c .before .before .before .before .before .counted .result) (c .before .before .before .before .before .counted .ensures .0) (c .before .before .before .before .if4 .left) in
-    (simp (a, b, h, f, r) (ap listed (c .before .before .list-all .ensures .0)), simp (a, b, h, f, r) (c .before .before .list-all .ensures .1))
+    let args = c .before .before .before .before .before .before .before .before .before .before .before .before .args in
+    let if1 = c .before .before .before .before .before .before .before .before .before .if1 in
+    let if2 = c .before .before .before .before .before .before .before .before .if2 in
+    let first-high = c .before .before .before .before .before .before .before .first-high in
+    let if3 = c .before .before .before .before .before .before .if3 in
+    let counted = c .before .before .before .before .before .counted in
+    let if4 = c .before .before .before .before .if4 in
+    let list-all = c .before .before .list-all in
+    let a = le-ltb _ _ (if1 .left) in
+    let b = eq-eqb _ _ (if2 .left) in
+    let h = sym (first-high .ensures) in
+    let f = le-ltb _ _ (if3 .left) in
+    let r = counted-room (now (args .vectors)) (length (now (args .list))) (counted .result) (counted .ensures .0) (if4 .left) in
+    (simp (a, b, h, f, r) (ap listed (list-all .ensures .0)), simp (a, b, h, f, r) (list-all .ensures .1))
 
 pub list-spec : {M : Type 1} → statement M
 list-spec =

@@ -23,8 +23,11 @@ loop-holds c = (lists-none (now (c .before .before .args .bytes)) (now (c .befor
 
 between-requires : tie.Need-between-requires Inv-loop μ-loop
 between-requires c κs =
-    let e = ap (λ (fs : List Frame). length fs) (left-all (now (c .before .before .before .before .before .before .args .bytes))) in
-    (c .before .before .before .loop .inv .0 .within, c .before .before .before .before .before .before .pre .0, omega (arith, c .before .before .before .before .before .before .pre .1, c .before .before .before .loop .inv .0 .number, c .before .before .before .loop .inv .1))
+    let args = c .before .before .before .before .before .before .args in
+    let pre = c .before .before .before .before .before .before .pre in
+    let loop = c .before .before .before .loop in
+    let e = ap (λ (fs : List Frame). length fs) (left-all (now (args .bytes))) in
+    (loop .inv .0 .within, pre .0, omega (arith, pre .1, loop .inv .0 .number, loop .inv .1))
 
 loop-less : tie.Need-loop-less Inv-loop μ-loop
 loop-less c =
@@ -33,13 +36,19 @@ loop-less c =
 
 loop-again : tie.Need-loop-again Inv-loop μ-loop
 loop-again c =
-    (lists-on (now (c .before .before .before .before .before .before .before .before .before .args .bytes)) 0 0 (now (c .before .before .before .before .before .before .before .before .before .args .list)) (c .before .before .before .before .before .before .loop .r) (c .before .before .before .before .before .before .loop .list) (c .before .before .between .result) (c .before .before .between .last .1 .0) (c .before .before .before .before .before .before .loop .inv .0) (c .before .before .between .ensures .0), omega (arith, c .before .before .between .kept .1 .0, c .before .before .before .before .before .before .loop .inv .1))
+    let args = c .before .before .before .before .before .before .before .before .before .args in
+    let loop = c .before .before .before .before .before .before .loop in
+    let between = c .before .before .between in
+    (lists-on (now (args .bytes)) 0 0 (now (args .list)) (loop .r) (loop .list) (between .result) (between .last .1 .0) (loop .inv .0) (between .ensures .0), omega (arith, between .kept .1 .0, loop .inv .1))
 
 same-length : tie.Need-same-length Inv-loop μ-loop
 same-length c = c .before .before .loop .inv .1
 
 returns : tie.Need-returns Inv-loop μ-loop
-returns c = lists-all (now (c .before .before .before .before .before .args .bytes)) (now (c .before .before .before .before .before .args .list)) (c .before .before .loop .list) (c .before .before .loop .r) (c .before .before .loop .inv .0) (c .if1 .left)
+returns c =
+    let args = c .before .before .before .before .before .args in
+    let loop = c .before .before .loop in
+    lists-all (now (args .bytes)) (now (args .list)) (loop .list) (loop .r) (loop .inv .0) (c .if1 .left)
 
 pub list-all-spec : {M : Type 1} → statement M
 list-all-spec =

@@ -34,8 +34,14 @@ same-length c = search needs
 
 returns : tie.Need-returns
 returns c =
-    let v = ap (λ (n : ℕ). take (c .before .before .before .before .before .before .before .before .before .before .before .before .before .before .args .at + 8) (c .before .before .before .before .before .before .before .store-half2 .last .0) ++ cut 8 (bit n) 4 ++ drop (c .before .before .before .before .before .before .before .before .before .before .before .before .before .before .args .at + 8 + 4) (c .before .before .before .before .before .before .before .store-half2 .last .0)) (c .before .before .before .flag .ensures) in
-    put-three (now (c .before .before .before .before .before .before .before .before .before .before .before .before .before .before .args .list)) (c .before .before .before .before .before .before .before .before .before .before .before .store-half .last .0) (c .before .before .before .before .before .before .before .store-half2 .last .0) (c .before .before .store-half3 .last .0) (c .before .before .before .before .before .before .before .before .before .before .before .before .before .before .args .at) (c .before .before .before .before .before .before .before .before .before .before .before .before .before .before .args .word) (c .before .before .before .before .before .before .before .before .before .before .before .before .before .before .args .octets) (flagWord (c .before .before .before .before .before .before .before .before .before .before .before .before .before .before .args .good)) (c .before .before .before .before .before .before .before .before .before .before .before .before .before .before .pre) (c .before .before .before .before .before .before .before .before .before .before .before .store-half .ensures) (c .before .before .before .before .before .before .before .store-half2 .ensures) (c .before .before .store-half3 .ensures ∙ v)
+    let args = c .before .before .before .before .before .before .before .before .before .before .before .before .before .before .args in
+    let pre = c .before .before .before .before .before .before .before .before .before .before .before .before .before .before .pre in
+    let store-half = c .before .before .before .before .before .before .before .before .before .before .before .store-half in
+    let store-half2 = c .before .before .before .before .before .before .before .store-half2 in
+    let flag = c .before .before .before .flag in
+    let store-half3 = c .before .before .store-half3 in
+    let v = ap (λ (n : ℕ). take (args .at + 8) (store-half2 .last .0) ++ cut 8 (bit n) 4 ++ drop (args .at + 8 + 4) (store-half2 .last .0)) (flag .ensures) in
+    put-three (now (args .list)) (store-half .last .0) (store-half2 .last .0) (store-half3 .last .0) (args .at) (args .word) (args .octets) (flagWord (args .good)) (pre) (store-half .ensures) (store-half2 .ensures) (store-half3 .ensures ∙ v)
 
 pub put-entry-spec : {M : Type 1} → statement M
 put-entry-spec =

@@ -33,16 +33,35 @@ loop-less : tie.Need-loop-less Inv-loop μ-loop
 loop-less c = search needs
 
 loop-again : tie.Need-loop-again Inv-loop μ-loop
-loop-again c = in-turn (now (c .before .before .before .before .before .before .args .bytes)) (c .before .before .before .before .before .before .args .k) (c .before .before .before .loop .j) (c .before .before .before .loop .r) (c .read-word .result) (c .before .before .before .loop .inv) (c .before .before .loop-test .taken) (c .before .if1 .taken) (c .read-word .ensures .0) (c .read-word .ensures .1)
+loop-again c =
+    let args = c .before .before .before .before .before .before .args in
+    let loop = c .before .before .before .loop in
+    let loop-test = c .before .before .loop-test in
+    let if1 = c .before .if1 in
+    in-turn (now (args .bytes)) (args .k) (loop .j) (loop .r) (c .read-word .result) (loop .inv) (loop-test .taken) (if1 .taken) (c .read-word .ensures .0) (c .read-word .ensures .1)
 
 returns : tie.Need-returns Inv-loop μ-loop
-returns c = in-ended (now (c .before .before .before .before .before .args .bytes)) (c .before .before .before .before .before .args .k) (c .before .before .loop .j) (c .before .before .loop .r) (c .before .before .before .before .before .pre .1) (c .before .before .loop .inv) (c .if1 .left)
+returns c =
+    let args = c .before .before .before .before .before .args in
+    let pre = c .before .before .before .before .before .pre in
+    let loop = c .before .before .loop in
+    in-ended (now (args .bytes)) (args .k) (loop .j) (loop .r) (pre .1) (loop .inv) (c .if1 .left)
 
 returns-2 : tie.Need-returns-2 Inv-loop μ-loop
-returns-2 c = in-done (now (c .before .before .before .before .before .args .bytes)) (c .before .before .before .before .before .args .k) (c .before .before .loop .j) (c .before .before .loop .r) _ (c .before .before .before .before .before .pre .1) (c .before .before .loop .inv) (c .before .loop-test .left) (rw (c .if2 .taken))
+returns-2 c =
+    let args = c .before .before .before .before .before .args in
+    let pre = c .before .before .before .before .before .pre in
+    let loop = c .before .before .loop in
+    let loop-test = c .before .loop-test in
+    in-done (now (args .bytes)) (args .k) (loop .j) (loop .r) _ (pre .1) (loop .inv) (loop-test .left) (rw (c .if2 .taken))
 
 returns-3 : tie.Need-returns-3 Inv-loop μ-loop
-returns-3 c = in-done (now (c .before .before .before .before .before .args .bytes)) (c .before .before .before .before .before .args .k) (c .before .before .loop .j) (c .before .before .loop .r) _ (c .before .before .before .before .before .pre .1) (c .before .before .loop .inv) (c .before .loop-test .left) (rw (c .if2 .left))
+returns-3 c =
+    let args = c .before .before .before .before .before .args in
+    let pre = c .before .before .before .before .before .pre in
+    let loop = c .before .before .loop in
+    let loop-test = c .before .loop-test in
+    in-done (now (args .bytes)) (args .k) (loop .j) (loop .r) _ (pre .1) (loop .inv) (loop-test .left) (rw (c .if2 .left))
 
 pub read-frame-spec : {M : Type 1} → statement M
 read-frame-spec =

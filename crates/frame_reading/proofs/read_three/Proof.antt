@@ -43,10 +43,13 @@ read-lane-requires-3 c κs = search needs
 
 returns : tie.Need-returns
 returns c =
-    let b = now (c .before .before .before .before .before .before .before .before .args .bytes) in
-    let k = c .before .before .before .before .before .before .before .before .args .k in
-    let x = ap (withCharacter (c .before .before .before .before .before .before .before .before .args .r)) (sym (lane-one b k)) in
-    (c .read-lane3 .ensures .0 ∙ ap₂ withCharacter (c .before .before .read-lane2 .ensures .0 ∙ ap₂ withCharacter (c .before .before .before .before .read-lane .ensures .0 ∙ x) (sym (lane-two b k))) (sym (lane-three b k)), omega arith)
+    let args = c .before .before .before .before .before .before .before .before .args in
+    let read-lane = c .before .before .before .before .read-lane in
+    let read-lane2 = c .before .before .read-lane2 in
+    let b = now (args .bytes) in
+    let k = args .k in
+    let x = ap (withCharacter (args .r)) (sym (lane-one b k)) in
+    (c .read-lane3 .ensures .0 ∙ ap₂ withCharacter (read-lane2 .ensures .0 ∙ ap₂ withCharacter (read-lane .ensures .0 ∙ x) (sym (lane-two b k))) (sym (lane-three b k)), omega arith)
 
 pub read-three-spec : {M : Type 1} → statement M
 read-three-spec =

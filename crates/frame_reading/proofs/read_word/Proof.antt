@@ -21,7 +21,11 @@ add-t10 : tie.Need-add-t10
 add-t10 c = search needs
 
 returns : tie.Need-returns
-returns c = (word-octets (c .before .before .before .before .args .r) (now (c .before .before .before .before .args .bytes)) (c .before .before .before .before .args .k) (c .before .before .before .before .pre .2) (c .before .if1 .taken), omega arith)
+returns c =
+    let args = c .before .before .before .before .args in
+    let pre = c .before .before .before .before .pre in
+    let if1 = c .before .if1 in
+    (word-octets (args .r) (now (args .bytes)) (args .k) (pre .2) (if1 .taken), omega arith)
 
 add-read-lane : tie.Need-add-read-lane
 add-read-lane c = search needs
@@ -38,9 +42,11 @@ read-three-requires c κs = search needs
 returns-2 : tie.Need-returns-2
 unfolding withWord
 returns-2 c =
-    let b = now (c .before .before .before .before .before .before .args .bytes) in
-    let k = c .before .before .before .before .before .before .args .k in
-    (c .read-three .ensures .0 ∙ ap (λ (r : Reading). withThree r (nthWord b k)) (c .before .read-lane .ensures .0 ∙ ap (withCharacter (c .before .before .before .before .before .before .args .r)) (sym (lane-zero b k))), omega arith)
+    let args = c .before .before .before .before .before .before .args in
+    let read-lane = c .before .read-lane in
+    let b = now (args .bytes) in
+    let k = args .k in
+    (c .read-three .ensures .0 ∙ ap (λ (r : Reading). withThree r (nthWord b k)) (read-lane .ensures .0 ∙ ap (withCharacter (args .r)) (sym (lane-zero b k))), omega arith)
 
 pub read-word-spec : {M : Type 1} → statement M
 read-word-spec =

@@ -30,10 +30,13 @@ begins-requires c κs = search needs
 
 returns : tie.Need-returns Inv-loop μ-loop
 returns c =
-    let b = now (c .before .before .before .before .before .before .args .bytes) in
-    let j = c .before .before .before .loop .j in
-    let y = begun-yes (c .before .before .before .loop .before && starts (nthWord b j)) (c .before .begins .result) (c .before .begins .ensures .0) (c .if1 .taken) in
-    record { later = c .before .before .before .loop .inv .0; within = c .before .before .before .loop .inv .1; rest = c .before .before .before .loop .inv .3; begins = λ h. ap (λ (q : Bool). q && starts (nthWord b j)) (sym (c .before .before .before .loop .inv .2)) ∙ y }
+    let args = c .before .before .before .before .before .before .args in
+    let loop = c .before .before .before .loop in
+    let begins = c .before .begins in
+    let b = now (args .bytes) in
+    let j = loop .j in
+    let y = begun-yes (loop .before && starts (nthWord b j)) (begins .result) (begins .ensures .0) (c .if1 .taken) in
+    record { later = loop .inv .0; within = loop .inv .1; rest = loop .inv .3; begins = λ h. ap (λ (q : Bool). q && starts (nthWord b j)) (sym (loop .inv .2)) ∙ y }
 
 quiet-at-requires : tie.Need-quiet-at-requires Inv-loop μ-loop
 quiet-at-requires c κs = search needs

@@ -29,10 +29,20 @@ add-word : tie.Need-add-word
 add-word c = search needs
 
 returns : tie.Need-returns
-returns c = idles-at (now (c .before .before .before .before .before .args .bytes)) (c .before .before .before .before .before .args .k) (λ i. omega (arith, c .before .before .before .shared-slice-known2 .given i)) (c .before .before .wide .result) (c .before .load-half .result) _ (c .before .before .wide .ensures .0, c .before .load-half .ensures .0, refl) (c .if1 .taken)
+returns c =
+    let args = c .before .before .before .before .before .args in
+    let shared-slice-known2 = c .before .before .before .shared-slice-known2 in
+    let wide = c .before .before .wide in
+    let load-half = c .before .load-half in
+    idles-at (now (args .bytes)) (args .k) (λ i. omega (arith, shared-slice-known2 .given i)) (wide .result) (load-half .result) _ (wide .ensures .0, load-half .ensures .0, refl) (c .if1 .taken)
 
 returns-2 : tie.Need-returns-2
-returns-2 c = set-at (now (c .before .before .before .before .before .args .bytes)) (c .before .before .before .before .before .args .k) (λ i. omega (arith, c .before .before .before .shared-slice-known2 .given i)) (c .before .before .wide .result) (c .before .load-half .result) _ (c .before .before .wide .ensures .0, c .before .load-half .ensures .0, refl) (c .if1 .left)
+returns-2 c =
+    let args = c .before .before .before .before .before .args in
+    let shared-slice-known2 = c .before .before .before .shared-slice-known2 in
+    let wide = c .before .before .wide in
+    let load-half = c .before .load-half in
+    set-at (now (args .bytes)) (args .k) (λ i. omega (arith, shared-slice-known2 .given i)) (wide .result) (load-half .result) _ (wide .ensures .0, load-half .ensures .0, refl) (c .if1 .left)
 
 pub quiet-at-spec : {M : Type 1} → statement M
 quiet-at-spec =

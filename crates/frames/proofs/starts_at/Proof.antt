@@ -30,7 +30,10 @@ add-result : tie.Need-add-result
 add-result c = search needs
 
 returns : tie.Need-returns
-returns c = starts-by (now (c .before .before .before .before .before .args .bytes)) (c .before .before .before .before .before .args .k) (c .before .before .wide .result) (c .wide2 .result) (c .wide2 .ensures .1) (c .before .before .wide .ensures .0) (c .wide2 .ensures .0)
+returns c =
+    let args = c .before .before .before .before .before .args in
+    let wide = c .before .before .wide in
+    starts-by (now (args .bytes)) (args .k) (wide .result) (c .wide2 .result) (c .wide2 .ensures .1) (wide .ensures .0) (c .wide2 .ensures .0)
 
 pub starts-at-spec : {M : Type 1} → statement M
 starts-at-spec =

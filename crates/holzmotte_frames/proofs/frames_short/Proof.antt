@@ -34,7 +34,8 @@ returns c list summary l = short-answer (now (c .before .before .before .before 
 returns-2 : tie.Need-returns-2
 returns-2 c list summary l =
     c .of-summary .ensures ∙ ap (λ (n : ℕ). cond (eqb (n % 256) 4) 4 n) (c .before .refusal .ensures)
-    ∙ short-answer (now (c .before .before .before .before .before .before .before .before .before .args .vectors)) list summary _ (sym (ap answerOf (c .before .before .before .why .given .1)) ∙ c .before .before .before .before .before .before .list .ensures .0) l
+    ∙ short-answer (now (c .before .before .before .before .before .before .before .before .before .args .vectors)) list summary _ (sym
+    (ap answerOf (c .before .before .before .why .given .1)) ∙ c .before .before .before .before .before .before .list .ensures .0) l
 
 pub frames-short-spec : {M : Type 1} → statement M
 frames-short-spec =

@@ -42,7 +42,8 @@ put-words-requires-2 c κs = search needs
 refusal-requires : tie.Need-refusal-requires
 refusal-requires c κs =
     let args = c .before .before .before .before .before .before .before .before .before .before .before .before .before .before .before .before .args in
-    small (now (args .vectors)) (length (now (args .list))) _ _ (sym (ap answerOf (c .before .before .before .before .before .before .why .given .1)) ∙ c .before .before .before .before .before .before .before .before .before .before .list .ensures .0)
+    small (now (args .vectors)) (length (now (args .list))) _ _ (sym (ap answerOf (c .before .before .before .before .before .before .why .given .1))
+    ∙ c .before .before .before .before .before .before .before .before .before .before .list .ensures .0)
 
 same-length : tie.Need-same-length
 same-length c = search needs
@@ -54,7 +55,9 @@ returns-2 : tie.Need-returns-2
 returns-2 c =
     let args = c .before .before .before .before .before .before .before .before .before .before .before .before .before .before .before .before .args in
     let list = c .before .before .before .before .before .before .before .before .before .before .list in
-    answered (now (args .vectors)) (now (args .list)) (now (args .summary)) _ _ _ (c .before .before .before .before .before .before .before .before .before .before .before .before .if1 .left) (sym (ap answerOf (c .before .before .before .before .before .before .n .given .1)) ∙ list .ensures .0) (list .ensures .1)
+    answered (now (args .vectors)) (now (args .list)) (now (args .summary)) _ _ _ (c .before .before .before .before .before .before .before
+    .before .before .before .before .before .if1 .left) (sym (ap answerOf (c .before .before .before .before .before .before .n .given .1))
+    ∙ list .ensures .0) (list .ensures .1)
     (c .before .before .put-words .ensures)
 
 same-length-3 : tie.Need-same-length-3
@@ -67,7 +70,9 @@ returns-3 : tie.Need-returns-3
 returns-3 c =
     let args = c .before .before .before .before .before .before .before .before .before .before .before .before .before .before .before .before .before .args in
     let list = c .before .before .before .before .before .before .before .before .before .before .before .list in
-    let t = answered (now (args .vectors)) (now (args .list)) (now (args .summary)) _ _ _ (c .before .before .before .before .before .before .before .before .before .before .before .before .before .if1 .left) (sym (ap answerOf (c .before .before .before .before .before .before .before .why .given .1)) ∙ list .ensures .0) (list .ensures .1) (c .before .before .before .put-words2 .ensures) in
+    let t = answered (now (args .vectors)) (now (args .list)) (now (args .summary)) _ _ _ (c .before .before .before .before .before .before
+    .before .before .before .before .before .before .before .if1 .left) (sym (ap answerOf (c .before .before .before .before .before .before .before .why .given .1))
+    ∙ list .ensures .0) (list .ensures .1) (c .before .before .before .put-words2 .ensures) in
     (c .refusal .ensures ∙ t .0, t .1, t .2)
 
 pub holzmotte-frames-spec : {M : Type 1} → statement M
