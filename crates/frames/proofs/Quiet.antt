@@ -37,7 +37,7 @@ either false b e f g = g e
 
 -- ---- one character
 
-is-control : (x f o : ℕ) → is x (byFlag f o) ≡ true → (f ≡ 0 → ⊥) × (o ≡ x)
+pub is-control : (x f o : ℕ) → is x (byFlag f o) ≡ true → (f ≡ 0 → ⊥) × (o ≡ x)
 is-control x f o h = go (eqb f 0) refl h
   where
     go : (b : Bool) → eqb f 0 ≡ b → is x (cond b (dataOctet o) (controlCharacter o)) ≡ true → (f ≡ 0 → ⊥) × (o ≡ x)

@@ -1,0 +1,17 @@
+-- What is received has the frames of what was sent. For every list of vectors that sending accepts, from any start state that it allows, that is
+-- legal and whose first 64 vectors are control vectors: the vectors that a fresh receiver gives over the sent line have the frames of the list, each
+-- with the same word number and the same characters, so with the same octets and the same verdict.
+use Prim.Native.Nat.{ℕ}
+use mathlib.Core.Path.{_≡_}
+use mathlib.Core.List.{List}
+use Rattle.block.specs.Block.{editionOf}
+use Rattle.transmit.specs.Send.{sentLine, vectorList}
+use Rattle.receiving.specs.Receive.{receivedVectors}
+use Rattle.demands.specs.Words.{SendAccepts}
+use Rattle.demands.specs.Demand2.{Returnable}
+use Rattle.frames.specs.Frames.{wordList, framesOf}
+
+abbrev pub FramesReturn : Type 0
+FramesReturn =
+    (edition : ℕ) (bytes : List ℕ) (start room : ℕ) → SendAccepts edition bytes start room → Returnable (editionOf edition) (vectorList bytes)
+    → framesOf (wordList (receivedVectors (editionOf edition) (sentLine (editionOf edition) bytes start))) ≡ framesOf (wordList bytes)

@@ -1,0 +1,1 @@
+// What is received has the frames of what was sent: a statement in specs/, its proof in proofs/. Laws only.
