@@ -5,6 +5,7 @@ pub mod counters;
 pub mod diagrams;
 pub mod edition;
 pub mod fault;
+pub mod frames;
 pub mod kept;
 pub mod receiving;
 pub mod records;

@@ -27,24 +27,34 @@ impl Sent {
 pub fn send(edition: u64, vectors: &[u8], start: u64, room: usize, summary_room: usize) -> Result<Sent, Refusal> {
     // "checked before all others"
     let edition = Edition::numbered(edition)?;
-    if vectors.len() > MOST_VECTOR_BYTES {
-        return refused(1);
-    }
-    if vectors.len() % 40 != 0 {
-        return refused(2);
-    }
+    judge_length(vectors)?;
     if start >= 1 << 58 {
         return refused(3);
     }
     if room < vectors.len() / 40 * 33 || summary_room < SUMMARY_BYTES {
         return refused(4);
     }
-    for place in (0..vectors.len()).step_by(5) {
-        if vectors[place] > 15 {
-            return Err(Refusal { number: 5, place });
-        }
-    }
+    judge_control_bytes(vectors)?;
     Ok(send_all(edition, vectors, start))
+}
+
+/// 1, "more than 1,000,000 vector bytes", then 2, "vector bytes not a multiple of 40".
+pub fn judge_length(vectors: &[u8]) -> Result<(), Refusal> {
+    if vectors.len() > MOST_VECTOR_BYTES {
+        return refused(1);
+    }
+    if vectors.len() % 40 != 0 {
+        return refused(2);
+    }
+    Ok(())
+}
+
+/// 5, "a control byte above 15", with the "byte offset of the first".
+pub fn judge_control_bytes(vectors: &[u8]) -> Result<(), Refusal> {
+    match (0..vectors.len()).step_by(5).find(|place| vectors[*place] > 15) {
+        Some(place) => Err(Refusal { number: 5, place }),
+        None => Ok(()),
+    }
 }
 
 fn send_all(edition: Edition, vectors: &[u8], start: u64) -> Sent {

@@ -16,16 +16,21 @@ pub enum Character {
 }
 
 /// "A word is five bytes: a control byte (bit i set when lane i carries a control character), then lanes 0 to 3."
-pub fn characters(vector: &Vector) -> [Character; 8] {
-    std::array::from_fn(|i| {
-        let (word, lane) = (5 * (i / 4), i % 4);
-        let octet = vector[word + 1 + lane];
-        if (vector[word] >> lane) & 1 == 1 {
+pub fn lanes(word: &[u8]) -> [Character; 4] {
+    std::array::from_fn(|lane| {
+        let octet = word[1 + lane];
+        if (word[0] >> lane) & 1 == 1 {
             Character::Control(octet)
         } else {
             Character::Data(octet)
         }
     })
+}
+
+/// The characters of a vector's two words.
+pub fn characters(vector: &Vector) -> [Character; 8] {
+    let words = [lanes(&vector[..5]), lanes(&vector[5..])];
+    std::array::from_fn(|i| words[i / 4][i % 4])
 }
 
 /// The vector with these characters.
