@@ -69,6 +69,11 @@ pub struct Tally {
     pub long_records: u64,
     pub ends: u64,
     pub written: u64,
+    /// Frames that were listed, those of them that are good and that are still open at the end, and lists that were too small.
+    pub frames: u64,
+    pub good_frames: u64,
+    pub open_frames: u64,
+    pub small_lists: u64,
 }
 
 impl Tally {
@@ -93,6 +98,10 @@ impl Tally {
         self.long_records += other.long_records;
         self.ends += other.ends;
         self.written += other.written;
+        self.frames += other.frames;
+        self.good_frames += other.good_frames;
+        self.open_frames += other.open_frames;
+        self.small_lists += other.small_lists;
     }
 
     fn add_faults(&mut self, faults: [u64; 4]) {

@@ -3,6 +3,7 @@ mod blocks;
 mod bursts;
 mod damage;
 mod faults;
+mod frames;
 mod lists;
 mod records;
 mod refusals;
@@ -16,7 +17,7 @@ pub struct Group {
     pub run: fn(&mut Calls) -> Outcome,
 }
 
-pub const GROUPS: [Group; 18] = [
+pub const GROUPS: [Group; 19] = [
     Group { name: "types", says: "every header and type byte in lock, edge and random payloads", run: blocks::types },
     Group { name: "octets", says: "all 256 octets in each character position of each format", run: blocks::octets },
     Group { name: "codes", says: "every code in each field of each format, unused bits set", run: blocks::codes },
@@ -43,4 +44,15 @@ pub const GROUPS: [Group; 18] = [
     Group { name: "longest", says: "825,000 bytes in bursts, and one more", run: bursts::longest },
     Group { name: "states", says: "states of any numbers, judged and gone on from", run: states::states },
     Group { name: "records", says: "capture records read at any place, written and read back", run: records::records },
+    Group { name: "frames", says: "words of every sort around one another, and what is received", run: frames::frames },
 ];
+
+/// The bits of a number: which faults a call has.
+fn bits<const N: usize>(number: usize) -> [bool; N] {
+    std::array::from_fn(|i| number >> i & 1 == 1)
+}
+
+/// "The first that applies in these orders is given, and no later one": the number of the first fault that a call has, or 0.
+fn first<const N: usize>(faults: [bool; N], numbers: [u64; N]) -> u64 {
+    numbers.into_iter().zip(faults).find(|(_, fault)| *fault).map_or(0, |(number, _)| number)
+}

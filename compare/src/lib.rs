@@ -2,6 +2,7 @@
 pub mod bursts;
 pub mod calls;
 pub mod captures;
+pub mod frames;
 pub mod groups;
 pub mod library;
 pub mod lines;

@@ -56,6 +56,14 @@ extern "C" {
         room: *mut u8,
         room_len: usize,
     ) -> u64;
+    fn holzmotte_frames(
+        vectors: *const u8,
+        vectors_len: usize,
+        list: *mut u8,
+        list_len: usize,
+        summary: *mut u8,
+        summary_len: usize,
+    ) -> u64;
 }
 
 /// Sends a list: 0, or refusal number + 256 x place.
@@ -145,6 +153,21 @@ pub fn read_record(file: &[u8], place: u64, summary: &mut [u8]) -> u64 {
 pub fn write_record(kind: u64, body: &[u8], wide: u64, room: &mut [u8]) -> u64 {
     // Safety: as above.
     unsafe { holzmotte_write_record(kind, body.as_ptr(), body.len(), wide, room.as_mut_ptr(), room.len()) }
+}
+
+/// The frames of a list of vectors: 0, or refusal number + 256 x place.
+pub fn frames(vectors: &[u8], list: &mut [u8], summary: &mut [u8]) -> u64 {
+    // Safety: as above.
+    unsafe {
+        holzmotte_frames(
+            vectors.as_ptr(),
+            vectors.len(),
+            list.as_mut_ptr(),
+            list.len(),
+            summary.as_mut_ptr(),
+            summary.len(),
+        )
+    }
 }
 
 /// The words of receiving's summary, and its bytes.

@@ -113,6 +113,14 @@ fn round(options: &Options, seed: u64) -> (usize, usize) {
         "records read: {}, of them longer than an old reader takes: {}, ends of records: {}; records written: {}",
         total.records, total.long_records, total.ends, total.written
     );
+    println!(
+        "frames listed: {}, good: {}, bad: {}, of them still open at the end: {}; lists too small: {}",
+        total.frames,
+        total.good_frames,
+        total.frames - total.good_frames,
+        total.open_frames,
+        total.small_lists
+    );
     (passed, failed)
 }
 

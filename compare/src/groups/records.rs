@@ -1,4 +1,5 @@
 //! Capture records: files read at any place, cut, spoilt and of noise; bodies written and read back; and what an old reader finds.
+use super::{bits, first};
 use crate::calls::{enough, Calls, Outcome};
 use crate::random::Random;
 use crate::records::{head, old_read, record, Read};
@@ -210,16 +211,6 @@ fn summaries(calls: &mut Calls) -> Outcome {
         }
     }
     Ok(())
-}
-
-/// The bits of a number: which faults a call has.
-fn bits<const N: usize>(number: usize) -> [bool; N] {
-    std::array::from_fn(|i| number >> i & 1 == 1)
-}
-
-/// "The first that applies in these orders is given, and no later one": the number of the first fault that a call has, or 0.
-fn first<const N: usize>(faults: [bool; N], numbers: [u64; N]) -> u64 {
-    numbers.into_iter().zip(faults).find(|(_, fault)| *fault).map_or(0, |(number, _)| number)
 }
 
 /// The length of a body under or above a limit, in whole groups of vectors or not. Those under it are not empty.

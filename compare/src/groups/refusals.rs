@@ -30,7 +30,8 @@ fn edition(calls: &mut Calls) -> u64 {
     }
 }
 
-fn spoil_control_byte(vectors: &mut [u8], random: &mut Random) {
+/// A control byte above 15 in some word.
+pub fn spoil_control_byte(vectors: &mut [u8], random: &mut Random) {
     if !vectors.is_empty() {
         let word = random.below(vectors.len().div_ceil(5));
         vectors[5 * word] = 16 + random.below(240) as u8;
