@@ -1,5 +1,6 @@
-//! Both hand-written versions keep the library's contract: same result and same bytes, on many short calls in both editions, refused ones
+//! The hand-written versions keep the library's contract: same result and same bytes, on many short calls in both editions, refused ones
 //! too, and on long lists and lines, over several windows of the error rate.
+use crate::frames;
 use crate::traffic::{self, Traffic};
 use crate::ways::{Way, WAYS};
 use compare::library;
@@ -193,7 +194,52 @@ fn check_in(edition: Edition, random: &mut Random) {
     same_received(edition as u64, &too_long[..825_001], 1_000_010, library::RECEIVE_SUMMARY_BYTES, counters);
 }
 
+/// Frames of these vectors, with lent slices of so many bytes.
+fn same_frames(vectors: &[u8], room: usize, summary_room: usize) {
+    let [library, plain] = [library::frames, frames::list].map(|list| {
+        let (mut entries, mut summary) = (vec![0xa5; room], vec![0x5a; summary_room]);
+        (list(vectors, &mut entries, &mut summary), entries, summary)
+    });
+    assert!(library == plain, "plain Rust lists other frames than the library");
+}
+
+/// Words of which frames are made, at times one whose characters are any, at times a list that is refused.
+fn listing(random: &mut Random) {
+    const WORDS: [[u8; 5]; 8] = [
+        [0x0f, 0x07, 0x07, 0x07, 0x07],
+        [0x01, 0xfb, 0x55, 0x55, 0x55],
+        [0x00, 0x01, 0x02, 0x03, 0x04],
+        [0x01, 0x9c, 0x00, 0x00, 0x01],
+        [0x0e, 0x01, 0xfd, 0x07, 0x07],
+        [0x04, 0x01, 0x02, 0xfe, 0x04],
+        [0x03, 0xfb, 0xfd, 0x00, 0x00],
+        [0x01, 0x5c, 0x00, 0x00, 0x01],
+    ];
+    let mut vectors: Vec<u8> = (0..8 * random.below(20)).flat_map(|_| random.pick(&WORDS)).collect();
+    for _ in 0..random.below(4) {
+        let (word, byte) = (random.below(vectors.len() / 5 + 1), random.below(5));
+        if let Some(changed) = vectors.get_mut(5 * word + byte) {
+            *changed = random.pick(&[0x07, 0xfb, 0xfd, 0xfe, 0x9c, 0x00, 0x0f]);
+        }
+    }
+    vectors.truncate(vectors.len().saturating_sub(if random.once_in(16) { 5 } else { 0 }));
+    let room = (vectors.len() / 10 * 12).saturating_sub(random.below(1 + vectors.len()));
+    same_frames(&vectors, room, 9 - random.below(3));
+}
+
+fn check_frames(random: &mut Random) {
+    (0..20_000).for_each(|_| listing(random));
+    let mut lists = traffic::all(Edition::Old);
+    lists.push(traffic::most_frames());
+    for list in &lists {
+        same_frames(&list.vectors, list.vectors.len() / 10 * 12, 8);
+        same_frames(&list.vectors, 12 * 50_000, 8);
+    }
+    same_frames(&vec![0; 1_000_040], 0, 8);
+}
+
 pub fn check() {
     let mut random = Random::new(3);
     EDITIONS.into_iter().for_each(|edition| check_in(edition, &mut random));
+    check_frames(&mut random);
 }

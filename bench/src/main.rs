@@ -1,11 +1,13 @@
 //! The library beside two hand-written Rust versions: same machine, same run, same input, all built for release, the buffers warm, the
 //! calls in turn, the best of many. Nothing is timed before all have given the same bytes. Then the library alone, a line in bursts beside
-//! one call over the whole; what a short call costs; and how the cost of a block changes with their number.
+//! one call over the whole; what a short call costs; frames, beside one hand-written version; and how the cost of a block changes with
+//! their number.
 //!
 //! `bench FOLDER` also writes there what it prints, as `speed.md`, and the last table as a picture, `growth.svg`.
 mod agree;
 mod fast;
 mod fastest;
+mod frames;
 mod growth;
 mod picture;
 mod report;
@@ -19,7 +21,7 @@ use report::Report;
 
 fn main() {
     agree::check();
-    let mut tables = [tables::ways(), tables::bursts(), tables::calls()];
+    let mut tables = [tables::ways(), tables::bursts(), tables::calls(), tables::frames()];
     let mut growth = Growth::new();
     for round in 1..=timing::ROUNDS {
         eprintln!("round {round} of {}", timing::ROUNDS);

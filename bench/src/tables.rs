@@ -113,3 +113,12 @@ pub fn calls() -> Table {
     ];
     Table { title: "A short call, ns", head: &["", "library", "plain Rust", "fastest Rust"], rows }
 }
+
+/// Frames, of the vectors that are timed above, and of as many frames as fit.
+pub fn frames() -> Table {
+    let told = |ns: &[f64]| [ns[0], ns[1], ns[0] / ns[1]].map(|number| format!("{number:.2}")).to_vec();
+    let mut lists = traffic::all(Edition::Old);
+    lists.push(traffic::most_frames());
+    let rows = lists.into_iter().map(|t| Row::new(&[t.name], timing::frames(t.vectors), told)).collect();
+    Table { title: "Frames, ns a word", head: &["vectors", "library", "plain Rust", "library / plain"], rows }
+}

@@ -1,4 +1,5 @@
 //! How calls are timed.
+use crate::frames;
 use crate::traffic::Traffic;
 use crate::ways::WAYS;
 use compare::library;
@@ -116,6 +117,16 @@ pub fn empty_burst(edition: Edition, line: &[u8]) -> Timed {
         best(1, VECTOR_BYTES, |_, lent| {
             let state = &mut *state.borrow_mut();
             library::burst(state, &[], &mut lent.out, &mut lent.summary, &mut lent.counters)
+        })
+    })
+}
+
+/// The frames of vectors, by the library and in plain Rust, in ns a word. The list has room for any.
+pub fn frames(vectors: Vec<u8>) -> Timed {
+    Timed::new::<2>(move || {
+        best(vectors.len() / 5, vectors.len() / 10 * 12, |way, lent| {
+            let list = [library::frames, frames::list][way];
+            list(&vectors, &mut lent.out, &mut lent.summary)
         })
     })
 }

@@ -43,6 +43,12 @@ pub fn long_frames() -> Vec<u8> {
     frames(|_| 1_500)
 }
 
+/// A frame in every second word.
+pub fn most_frames() -> Traffic {
+    let vector = [0x0f, 0x07, 0x07, 0x07, 0x07, 0x03, 0xfb, 0xfd, 0x00, 0x00];
+    Traffic { name: "as many frames as fit", vectors: vector.repeat(BLOCKS), line: None }
+}
+
 /// 64 vectors of idles, then low power idle.
 fn low_power() -> Traffic {
     let vectors = [lists::idle().repeat(64), lists::low_power().repeat(BLOCKS - 64)].concat();
