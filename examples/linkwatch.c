@@ -1,9 +1,10 @@
-/* linkwatch [--energy-saving] CAPTURE ...: tells a person what a 10GBASE-R link says, from captures of line records. A capture is a file,
+/* linkwatch [--energy-saving] [--frames] CAPTURE ...: tells a person what a 10GBASE-R link says, from captures of line records. A capture is a file,
  * or a pipe into which a probe writes: it is told as it comes, in memory that does not grow.
  *
  * Each record's line bytes are a burst for the library. linkwatch prints one line for each run of vectors that say the same, as soon as the
- * run is over, and at the end how many blocks were bad and why, and how many frames began. After several captures it prints the total.
- * All that it tells of a link stands in the vectors, summaries and counters that the library answered. A block takes 6.4 ns on the line.
+ * run is over, and at the end how many blocks were bad and why, how many frames began, and how many are good and bad by Clause 46 (the
+ * header, "Frames"), with --frames each of them. After several captures it prints the total. All that it tells of a link stands in the
+ * vectors, summaries, counters and lists that the library answered. A block takes 6.4 ns on the line.
  *
  * A capture does not say whether Energy Efficient Ethernet was on. With --energy-saving captures are received in the new edition (the
  * header, "The editions of Clause 49"), and it tells how many vectors were low power idle. Without it they are received in the old one,
@@ -26,10 +27,11 @@
 #include <string.h>
 
 static const char USAGE[] =
-    "usage: linkwatch [--energy-saving] CAPTURE ...\n"
+    "usage: linkwatch [--energy-saving] [--frames] CAPTURE ...\n"
     "A capture is a file, or a pipe such as /dev/stdin, of records: body length and kind (two bytes each, least significant first), then\n"
     "the body. All are of kind 2, line bytes, at most 65,472 in a record. They are told as they come, in parts of at most 825,000 bytes.\n"
-    "--energy-saving is for links that have Energy Efficient Ethernet (IEEE 802.3az) on: low power idle is then no error.\n";
+    "--energy-saving is for links that have Energy Efficient Ethernet (IEEE 802.3az) on: low power idle is then no error.\n"
+    "--frames lists the frames: the block of the Start, the octets after it, good or bad.\n";
 
 /* What the library is given again with each burst, and its summary: the last one, and the one with which lock first came. */
 struct receiver {
@@ -44,6 +46,8 @@ static size_t place, heard;           /* of the record that is read; line bytes 
 static const char *whole;             /* what a summary speaks of */
 static int told;                      /* captures in the total */
 static uint64_t edition = HOLZMOTTE_EDITION_OLD;
+static int list_frames;
+static uint8_t heard_vectors[HOLZMOTTE_MAX_VECTOR_BYTES], frames[HOLZMOTTE_FRAMES_ROOM(HOLZMOTTE_MAX_VECTOR_BYTES)]; /* of a part */
 
 static unsigned long word(enum holzmotte_receive_word i) { return (unsigned long)holzmotte_word(watched.summary, i); }
 
@@ -133,6 +137,7 @@ static void take(const uint8_t *v)
         end_run();
     if (run.to == run.from)
         run.starts = starts(v);
+    memcpy(heard_vectors + HOLZMOTTE_VECTOR_BYTES * run.to, v, HOLZMOTTE_VECTOR_BYTES);
     run.to++;
     run.locals += (unsigned long)times(v, LOCAL);
     run.remotes += (unsigned long)times(v, REMOTE);
@@ -210,6 +215,24 @@ static void print_link(void)
     puts("");
 }
 
+/* The frames of all vectors, with idles behind the last up to whole fours. */
+static void print_frames(void)
+{
+    uint8_t summary[HOLZMOTTE_FRAMES_SUMMARY_BYTES];
+    size_t bytes = HOLZMOTTE_VECTOR_BYTES * run.to;
+    for (; bytes % HOLZMOTTE_GROUP_VECTOR_BYTES != 0; bytes += HOLZMOTTE_VECTOR_BYTES)
+        memcpy(heard_vectors + bytes, IDLES, HOLZMOTTE_VECTOR_BYTES);
+    holzmotte_frames(heard_vectors, bytes, frames, sizeof frames, summary, sizeof summary);
+    unsigned long number = (unsigned long)holzmotte_word(summary, HOLZMOTTE_FRAMES_NUMBER), good = 0;
+    for (unsigned long i = 0; i < number; i++)
+        good += holzmotte_frame(frames, i, HOLZMOTTE_FRAME_GOOD);
+    printf("frames by Clause 46: %lu good, %lu bad\n", good, number - good);
+    for (unsigned long i = 0; i < number && list_frames; i++)
+        printf("%8lu %8lu octets  %s\n", (unsigned long)holzmotte_frame(frames, i, HOLZMOTTE_FRAME_WORD) / 2,
+               (unsigned long)holzmotte_frame(frames, i, HOLZMOTTE_FRAME_OCTETS),
+               holzmotte_frame(frames, i, HOLZMOTTE_FRAME_GOOD) ? "good" : "bad");
+}
+
 static unsigned long count(enum holzmotte_counter_number i) { return holzmotte_counter(total, i); }
 
 static void print_total(int captures)
@@ -259,6 +282,7 @@ static void end_part(void)
     take_handed_out();
     end_run();
     print_link();
+    print_frames();
 }
 
 static int burst(struct receiver *r, const uint8_t *bytes, size_t n, uint8_t *counters)
@@ -364,13 +388,15 @@ static int watch(const char *name)
     return 1;
 }
 
-/* Takes the option out of the arguments, wherever it stands: how many captures are left, from argv[1] on. */
+/* Takes the options out of the arguments, wherever they stand: how many captures are left, from argv[1] on. */
 static int captures_of(int argc, char **argv)
 {
     int captures = 0;
     for (int i = 1; i < argc; i++)
         if (strcmp(argv[i], "--energy-saving") == 0)
             edition = HOLZMOTTE_EDITION_NEW;
+        else if (strcmp(argv[i], "--frames") == 0)
+            list_frames = 1;
         else
             argv[++captures] = argv[i];
     return captures;

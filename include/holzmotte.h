@@ -538,9 +538,9 @@ enum holzmotte_frames_word {
 };
 
 /* A number of frame i of a list: 32-bit numbers, least significant byte first, three to a frame. */
-static inline uint32_t holzmotte_frame(const uint8_t *list, size_t i, enum holzmotte_frame_number number)
+static inline uint32_t holzmotte_frame(const uint8_t *list, uint64_t i, enum holzmotte_frame_number number)
 {
-    return (uint32_t)holzmotte_number_in(list + HOLZMOTTE_FRAME_BYTES * i + 4 * (size_t)number, 4);
+    return (uint32_t)holzmotte_number_in(list + HOLZMOTTE_FRAME_BYTES * (size_t)i + 4 * (size_t)number, 4);
 }
 
 /* Lists the frames of vectors.
