@@ -5,6 +5,7 @@
 enum { ROUNDS = 400, LONGEST = 400, LOCKING = 64 };
 
 static uint8_t vectors[HOLZMOTTE_MAX_VECTOR_BYTES], line[HOLZMOTTE_MAX_LINE_BYTES], answers[HOLZMOTTE_MAX_VECTOR_BYTES + 10];
+static uint8_t entries[HOLZMOTTE_FRAMES_ROOM(HOLZMOTTE_MAX_VECTOR_BYTES)];
 static uint8_t summary[HOLZMOTTE_RECEIVE_SUMMARY_BYTES], counters[HOLZMOTTE_COUNTERS_BYTES], state[HOLZMOTTE_STATE_BYTES];
 
 #if defined(__x86_64__)
@@ -192,18 +193,37 @@ static void records(struct sum *sum)
     add(sum, summary, HOLZMOTTE_READ_SUMMARY_BYTES);
 }
 
+/* The frames of a list, with some characters changed; at times the list or the summary is a byte short, or a control byte is high. */
+static void frames(struct sum *sum, size_t count)
+{
+    make_list(count);
+    for (size_t changes = below(12); changes > 0; changes--)
+        vectors[5 * below(2 * count) + 1 + below(4)] = (uint8_t)(below(2) ? 0xfe : 0x07);
+    if (below(16) == 0)
+        vectors[5 * below(2 * count)] += 16;
+    size_t room = below(4) ? HOLZMOTTE_FRAMES_ROOM(10 * count) : below(HOLZMOTTE_FRAMES_ROOM(10 * count));
+    add_number(sum, holzmotte_frames(vectors, 10 * count, entries, room, summary, HOLZMOTTE_FRAMES_SUMMARY_BYTES - (below(16) == 0)));
+    add(sum, entries, room);
+    add(sum, summary, HOLZMOTTE_FRAMES_SUMMARY_BYTES);
+}
+
 void run(void)
 {
     uint64_t none = 0xcbf29ce484222325;
     struct sum sent = {"send    ", none}, received = {"receive ", none}, in_bursts = {"bursts  ", none}, recorded = {"records ", none};
+    struct sum listed = {"frames  ", none};
     round_of(HOLZMOTTE_MAX_VECTOR_BYTES / 10, 3000, &sent, &received, &in_bursts);
     for (size_t round = 0; round < ROUNDS; round++)
         round_of(4 + 4 * below(LONGEST / 4), 40, &sent, &received, &in_bursts);
     for (size_t round = 0; round < ROUNDS; round++)
         records(&recorded);
+    frames(&listed, HOLZMOTTE_MAX_VECTOR_BYTES / 10);
+    for (size_t round = 0; round < ROUNDS; round++)
+        frames(&listed, 4 + 4 * below(LONGEST / 4));
     tell(&sent);
     tell(&received);
     tell(&in_bursts);
     tell(&recorded);
+    tell(&listed);
     end();
 }
