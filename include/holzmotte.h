@@ -51,10 +51,10 @@ extern "C" {
 #define HOLZMOTTE_VERSION_PATCH 0
 #define HOLZMOTTE_VERSION "0.9.0"
 
-/* So much stack is enough for a call. This is tested, not proved. Measured on 64-bit Arm: to send takes up to 1.0 KB, to receive 0.7, a
- * burst 0.6, to close 0.5, to begin and to write a record 0.1, to read one 0.1 (1.0 in the first call of the test). On x86-64: to send and
- * to close 0.7 KB, to receive 0.9, a burst 0.8; the two of records were not measured there. The project's two programs, which hold a
- * whole record and what they gather, take up to 239 KB. */
+/* So much stack is enough for a call. This is tested, not proved. Measured on 64-bit Arm: to send takes up to 1.0 KB, to list frames 0.9,
+ * however many there are, to receive 0.7, a burst 0.6, to close 0.5, to begin and to write a record 0.1, to read one 0.1 (1.0 in the first
+ * call of the test). On x86-64: to send and to close 0.7 KB, to receive 0.9, a burst 0.8; records and frames were not measured there. The
+ * project's two programs, which hold a whole record and what they gather, take up to 239 KB. */
 #define HOLZMOTTE_STACK_BYTES 16384
 
 /* Sizes, in bytes. */

@@ -84,7 +84,7 @@ fn list_all(bytes: &[u8], list: &mut [u8]) -> usize
         entries: 0,
     };
     while r.word < words {
-        r = between(bytes, list, r.word, r.entries, 31);
+        r = between(bytes, list, r.word, r.entries, 7);
     }
     r.entries
 }
