@@ -1,17 +1,16 @@
 -- The list of frames as bytes, entry by entry. Assumes nothing.
-use Prim.Native.Nat.{ℕ, suc, _+_, _*_, _-_, _/_, _≤_, _<_}
+use Prim.Native.Nat.{ℕ, _+_, _*_, _-_, _/_, _≤_, _<_}
 use mathlib.Core.Path.{_≡_, refl, sym, ap, _∙_}
 use mathlib.Core.Bool.{true, _&&_}
 use mathlib.Core.List.{List, [], _∷_, _++_, append-assoc, append-nil}
 use native.Mathlib.Omega.{arith}
-use lib.ListN.{length, take, drop, set, length-append, take-append-drop}
-use lib.Seq.{length-take-le, take-at, drop-at, drop-drop, drop-append-add, sets-eq}
+use lib.ListN.{length, take, drop, length-append, take-append-drop}
+use lib.Seq.{length-take-le, take-at, drop-at, drop-drop}
 use Rattle.bits.specs.Bits.{bit, cut}
-use Rattle.bits.proofs.Laws.{length-cut}
 use Rattle.line.proofs.Laws.{put-more}
 use Rattle.lent_words.specs.Words.{wordBytes, flagWord}
 use Rattle.lent_words.proofs.Laws.{length-words}
-use Rattle.frames.specs.Frames.{upToEnd, dataOctets, isGood, Frame, starts}
+use Rattle.frames.specs.Frames.{Frame, starts}
 use Rattle.frame_list.specs.Answer.{entryWords, entries, framesIn, framesNumber}
 use Rattle.frames.specs.Words.{nthWord, quietBefore, framesLeft}
 use Rattle.frame_starts.specs.Finds.{FindsStart}

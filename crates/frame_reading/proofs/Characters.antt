@@ -1,16 +1,16 @@
 -- What reading a character makes of a frame. Assumes nothing.
-use Prim.Native.Nat.{ℕ, _+_, _*_, _/_, _%_}
-use mathlib.Core.Path.{_≡_, refl, sym, ap, _∙_}
-use mathlib.Core.Bool.{Bool, true, false, not, _&&_, _||_, true≢false}
+use Prim.Native.Nat.{ℕ, _+_, _*_}
+use mathlib.Core.Path.{_≡_, refl, sym, _∙_}
+use mathlib.Core.Bool.{Bool, true, false, not, _&&_, true≢false}
 use mathlib.Core.List.{List, [], _∷_}
 use native.Mathlib.Omega.{arith}
 use lib.Dec.{eqb}
-use lib.ListN.{length, getD}
+use lib.ListN.{getD}
 use borrow.Author.Tests.{eqb-true, ne-eqb}
 use Rattle.refusals.proofs.Laws.{by-test}
 use Rattle.frames.specs.Frames.{Character, dataOctet, controlCharacter, byFlag, laneCharacter, charactersOf, quiet, endsFrame, upToEnd, dataOctets, isGood, afterStart}
 use Rattle.frames.specs.Words.{nthWord}
-use Rattle.frames.proofs.Quiet.{and-false, lane-zero, lane-one, lane-two, lane-three, quiet-ends}
+use Rattle.frames.proofs.Quiet.{and-false, or-false, lane-zero, lane-one, lane-two, lane-three, quiet-ends}
 use Rattle.frame_reading.specs.Reading.{withCharacter, withThree, withWord, octetsIn, goodIn}
 use Rattle.frame_reading.specs.declared.Reading.{Reading}
 
@@ -93,10 +93,6 @@ octets-with r c cs = go (r .going) refl c
 -- a control character that is no error character is good only as Terminate
 not-both : (c : ℕ) → eqb c 0xfe ≡ true → eqb c 0xfd ≡ false
 not-both c t = ne-eqb c 0xfd (λ e. let x = eqb-true c 0xfe t in omega arith)
-
-or-false : (b : Bool) → (b || false) ≡ b
-or-false true = refl
-or-false false = refl
 
 good-with : (r : Reading) (c : Character) (cs : List Character) → goodIn (withCharacter r c) cs ≡ goodIn r (c ∷ cs)
 unfolding goodIn withCharacter upToEnd isGood

@@ -1,14 +1,14 @@
 -- Frames stand in order and do not overlap, and a good one is its octets and Terminate. Assumes nothing.
 use Prim.Native.Nat.{ℕ, suc, _+_, _*_, _≤_, _<_}
-use mathlib.Core.Path.{_≡_, refl, sym, ap, _∙_}
+use mathlib.Core.Path.{_≡_, refl, sym, ap}
 use mathlib.Core.Bool.{Bool, true, false, not, cond, _&&_, _||_, true≢false}
 use mathlib.Core.List.{List, [], _∷_, _++_, map}
 use native.Mathlib.Omega.{arith}
 use lib.Dec.{eqb}
 use lib.ListN.{length}
-use borrow.Author.Tests.{eqb-true, eq-eqb}
+use borrow.Author.Tests.{eqb-true}
 use Rattle.refusals.proofs.Laws.{by-test}
-use Rattle.frames.specs.Frames.{Character, dataOctet, controlCharacter, laneCharacter, charactersOf, is, quiet, starts, endsFrame, upToEnd, dataOctets, isGood, afterStart, Frame, framesFrom}
+use Rattle.frames.specs.Frames.{Character, dataOctet, controlCharacter, laneCharacter, charactersOf, quiet, starts, endsFrame, upToEnd, dataOctets, isGood, afterStart, Frame, framesFrom}
 use Rattle.frames.specs.Apart.{OverBefore, InOrder, FramesApart, FewFrames, GoodFrames}
 use Rattle.frames.proofs.Quiet.{and-both, quiet-ends, start-loud}
 
@@ -27,14 +27,22 @@ reach-more c cs = go (endsFrame c)
 reach-word : (w : List ℕ) (ws : List (List ℕ)) → length (upToEnd (charactersOf (w ∷ ws))) ≤ 4 + length (upToEnd (charactersOf ws))
 unfolding charactersOf
 reach-word w ws =
-    omega (arith, reach-more (laneCharacter w 0) (laneCharacter w 1 ∷ laneCharacter w 2 ∷ laneCharacter w 3 ∷ charactersOf ws),
-    reach-more (laneCharacter w 1) (laneCharacter w 2 ∷ laneCharacter w 3 ∷ charactersOf ws), reach-more (laneCharacter w 2) (laneCharacter w 3 ∷ charactersOf ws),
-    reach-more (laneCharacter w 3) (charactersOf ws))
+    omega (
+      arith,
+      reach-more (laneCharacter w 0) (laneCharacter w 1 ∷ laneCharacter w 2 ∷ laneCharacter w 3 ∷ charactersOf ws),
+      reach-more (laneCharacter w 1) (laneCharacter w 2 ∷ laneCharacter w 3 ∷ charactersOf ws),
+      reach-more (laneCharacter w 2) (laneCharacter w 3 ∷ charactersOf ws),
+      reach-more (laneCharacter w 3) (charactersOf ws),
+    )
 
 reach-start : (w : List ℕ) (ws : List (List ℕ)) → length (upToEnd (afterStart w ws)) ≤ 3 + length (upToEnd (charactersOf ws))
 reach-start w ws =
-    omega (arith, reach-more (laneCharacter w 1) (laneCharacter w 2 ∷ laneCharacter w 3 ∷ charactersOf ws),
-    reach-more (laneCharacter w 2) (laneCharacter w 3 ∷ charactersOf ws), reach-more (laneCharacter w 3) (charactersOf ws))
+    omega (
+      arith,
+      reach-more (laneCharacter w 1) (laneCharacter w 2 ∷ laneCharacter w 3 ∷ charactersOf ws),
+      reach-more (laneCharacter w 2) (laneCharacter w 3 ∷ charactersOf ws),
+      reach-more (laneCharacter w 3) (charactersOf ws),
+    )
 
 -- a quiet word: no further than its first character
 reach-quiet : (w : List ℕ) (ws : List (List ℕ)) → quiet w ≡ true → length (upToEnd (charactersOf (w ∷ ws))) ≡ 1

@@ -1,5 +1,5 @@
 -- The tests of one word, and what they say of a frame that is open there. Assumes nothing.
-use Prim.Native.Nat.{ℕ, zero, suc, _+_, _*_, _/_, _%_, _≤_, _<_}
+use Prim.Native.Nat.{ℕ, zero, suc, _+_, _*_, _/_, _%_, _<_}
 use mathlib.Core.Path.{_≡_, refl, sym, ap, ap₂, _∙_}
 use mathlib.Core.Bool.{Bool, true, false, not, cond, _&&_, _||_, true≢false}
 use mathlib.Core.List.{List}
@@ -27,7 +27,7 @@ and-true : (b : Bool) → (b && true) ≡ b
 and-true true = refl
 and-true false = refl
 
-or-false : (b : Bool) → (b || false) ≡ b
+pub or-false : (b : Bool) → (b || false) ≡ b
 or-false true = refl
 or-false false = refl
 
@@ -212,7 +212,7 @@ module _ (bytes : List ℕ) (k : ℕ) where
         let c : 5 * k + 1 + 2 ≡ 5 * k + 3 = omega arith in
         let d : 5 * k + 1 + 3 ≡ 5 * k + 4 = omega arith in
         let n : bytesAt bytes (5 * k + 1) 4
-            ≡ getD bytes (5 * k + 1) 0 + getD bytes (5 * k + 2) 0 * 256 + getD bytes (5 * k + 3) 0 * 65536 + getD bytes (5 * k + 4) 0 * 16777216 =
+        ≡ getD bytes (5 * k + 1) 0 + getD bytes (5 * k + 2) 0 * 256 + getD bytes (5 * k + 3) 0 * 65536 + getD bytes (5 * k + 4) 0 * 16777216 =
         rw (a, b, c, d) (omega arith) in
         l .2 ∙ ap₂ (λ (x y : ℕ). x % 16 + y * 256) (l .0) (l .1 ∙ sym (bytesAt-number bytes small (5 * k + 1) 4) ∙ n)
 

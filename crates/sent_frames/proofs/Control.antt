@@ -1,5 +1,5 @@
 -- No word of a control vector has a Start. Assumes nothing.
-use Prim.Native.Nat.{ℕ, _/_, _%_, _<_}
+use Prim.Native.Nat.{ℕ, _/_, _%_}
 use mathlib.Core.Path.{_≡_, refl, sym, ap, ap₂, _∙_}
 use mathlib.Core.Bool.{Bool, true, false, cond, not, _&&_, _||_, true≢false}
 use mathlib.Core.List.{List, [], _∷_}
@@ -11,7 +11,6 @@ use borrow.Author.Tests.{eqb-true}
 use Rattle.refusals.proofs.Laws.{by-test}
 use Rattle.block.specs.declared.Edition.{Edition}
 use Rattle.block.specs.declared.Edition.the-variants.{Old, New}
-use Rattle.block.specs.declared.Kind.{Kind}
 use Rattle.block.specs.declared.Kind.the-variants.{LI}
 use Rattle.block.specs.Block.{Field, Format, dataBlock, controlBlocks, isC, lowPower, kindFor, flagOf, laneOf, codeFor, sentCode, carries, carrierKind, carrierBy, carrier, vectorKind}
 use Rattle.demands.specs.Words.{controlVector}

@@ -1,6 +1,6 @@
 -- Words without a Start begin no frame, and are passed. Assumes nothing.
-use Prim.Native.Nat.{ℕ, zero, suc, _+_, _*_, _≤_}
-use mathlib.Core.Path.{_≡_, refl, sym, ap, ap₂, _∙_}
+use Prim.Native.Nat.{ℕ, zero, suc, _+_, _*_}
+use mathlib.Core.Path.{_≡_, refl, sym, ap, _∙_}
 use mathlib.Core.Bool.{Bool, true, false, cond, _&&_}
 use mathlib.Core.List.{List, [], _∷_, _++_}
 use native.Mathlib.Omega.{arith}
@@ -9,7 +9,7 @@ use lib.Seq.{drop-drop}
 use Rattle.block.specs.declared.Edition.{Edition}
 use Rattle.transmit.specs.Send.{vectorsIn}
 use Rattle.demands.specs.Words.{controlVector, controlVectors}
-use Rattle.frames.specs.Frames.{wordsIn, quiet, starts, upToEnd, afterStart, Frame, framesFrom}
+use Rattle.frames.specs.Frames.{wordsIn, quiet, starts, upToEnd, afterStart, framesFrom}
 use Rattle.frames.proofs.Quiet.{and-both, and-false}
 use Rattle.sent_frames.proofs.Control.{first-none, second-none}
 

@@ -81,9 +81,11 @@ between-returns t c =
     let next-start = c .before .before .before .before .before .next-start in
     let if1 = c .before .before .before .before .if1 in
     let inside = c .before .before .inside in
-    let f = next-start .ensures in
-    (lists-skip (now (args .bytes)) (args .k) (args .n) (next-start .result) (now (args .list)) (inside .result) (inside .last .1 .0) f
-    (inside .ensures .0), λ h. omega (arith, f .later, inside .ensures .1 (if1 .taken)))
+    let f = next-start .ensures in (
+      lists-skip (now (args .bytes)) (args .k) (args .n) (next-start .result) (now (args .list)) (inside .result) (inside .last .1 .0) f
+          (inside .ensures .0),
+      λ h. omega (arith, f .later, inside .ensures .1 (if1 .taken)),
+    )
 
 between-returns-2 : (t : ℕ) → between-lts.Need-returns-2 (
   next-start-reads.Asked,
@@ -162,10 +164,12 @@ inside-returns t c =
     let args = c .before .before .before .before .before .before .before .before .args in
     let pre = c .before .before .before .before .before .before .before .before .pre in
     let read-frame = c .before .before .before .before .before .read-frame in
-    let put-entry = c .before .before .before .put-entry in
-    (lists-put (now (args .bytes)) (args .k) (args .n) (now (args .list)) (put-entry .last .0) (read-frame .result) (pre .1 .0) (pre .1 .3)
-    (read-frame .ensures) (left-room (now (args .bytes)) (args .k) (args .n) (length (now (args .list))) (pre .1 .0) (pre .1 .3) (pre .1 .2))
-    (put-entry .ensures), λ h. read-frame .ensures .later)
+    let put-entry = c .before .before .before .put-entry in (
+      lists-put (now (args .bytes)) (args .k) (args .n) (now (args .list)) (put-entry .last .0) (read-frame .result) (pre .1 .0) (pre .1 .3)
+          (read-frame .ensures) (left-room (now (args .bytes)) (args .k) (args .n) (length (now (args .list))) (pre .1 .0) (pre .1 .3) (pre .1 .2))
+          (put-entry .ensures),
+      λ h. read-frame .ensures .later,
+    )
 
 inside-add-between : (t : ℕ) → inside-lts.Need-add-between (
   read-frame-reads.Asked,
@@ -230,9 +234,11 @@ inside-returns-2 t c =
     let between = c .before .before .between in
     let p = lists-put (now (args .bytes)) (args .k) (args .n) (now (args .list)) (put-entry .last .0) (read-frame .result) (pre .1 .0) (pre
     .1 .3) (read-frame .ensures) (left-room (now (args .bytes)) (args .k) (args .n) (length (now (args .list))) (pre .1 .0) (pre .1 .3)
-    (pre .1 .2)) (put-entry .ensures) in
-    (lists-on (now (args .bytes)) (args .k) (args .n) (now (args .list)) _ (put-entry .last .0) (between .result) (between .last .1 .0)
-    p (between .ensures .0), λ h. omega (arith, read-frame .ensures .later, between .ensures .0 .later))
+    (pre .1 .2)) (put-entry .ensures) in (
+      lists-on (now (args .bytes)) (args .k) (args .n) (now (args .list)) _ (put-entry .last .0) (between .result) (between .last .1 .0)
+          p (between .ensures .0),
+      λ h. omega (arith, read-frame .ensures .later, between .ensures .0 .later),
+    )
 
 pub +between+inside-spec : {M : Type 1} → statement M
 +between+inside-spec = close μ-between μ-inside (λ t. between-lts.spec (

@@ -1,5 +1,5 @@
 -- `frame_list::counted` meets its contract. Assumes nothing.
-use Prim.Native.Nat.{ℕ}
+
 use mathlib.Core.Path.{sym, ap, _∙_}
 use mathlib.Core.Bool.{Bool, cond}
 use native.Mathlib.Omega.{arith}
