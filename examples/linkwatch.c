@@ -1,5 +1,5 @@
-/* linkwatch [--energy-saving] [--frames] CAPTURE ...: tells a person what a 10GBASE-R link says, from captures of line records. A capture is a file,
- * or a pipe into which a probe writes: it is told as it comes, in memory that does not grow.
+/* linkwatch [--energy-saving] [--frames] CAPTURE ...: tells a person what a 10GBASE-R link says, from captures of line records. A capture is
+ * a file, or a pipe into which a probe writes: it is told as it comes, in memory that does not grow.
  *
  * Each record's line bytes are a burst for the library. linkwatch prints one line for each run of vectors that say the same, as soon as the
  * run is over, and at the end how many blocks were bad and why, how many frames began, and how many are good and bad by Clause 46 (the

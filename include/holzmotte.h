@@ -29,8 +29,8 @@
  * short for the frames, their number.
  *
  * What is written. A success writes exactly the bytes that stand at each function, from the start of the lent slice, and leaves the
- * rest of the slice as it was. A refusal leaves `line`, or `vectors`, `counters` and `state`, or `room`, or `list`, as they were and writes the
- * summary's bytes as zeros; where the summary slice is too short for them it stays as it was, whatever the refusal.
+ * rest of the slice as it was. A refusal leaves `line`, or `vectors`, `counters` and `state`, or `room`, or `list`, as they were and writes
+ * the summary's bytes as zeros; where the summary slice is too short for them it stays as it was, whatever the refusal.
  */
 #ifndef HOLZMOTTE_H
 #define HOLZMOTTE_H
@@ -503,8 +503,8 @@ uint64_t holzmotte_write_record(uint64_t kind, const uint8_t *body, size_t body_
  *   - It ends at the first later control character that is not an error character (fe). In lanes 1 to 3 of its first word too.
  *   - It is good where that is Terminate (fd) and no error character came before it; else it is bad. One that is still open at the end of
  *     the list is bad.
- *   - Its octets are the data octets after Start, up to its end: six of preamble, the start frame delimiter, and all from addresses to check
- *     sequence, where it is a frame of Ethernet. Nothing of this is looked at: a good frame may have a wrong check sequence.
+ *   - Its octets are the data octets after Start, up to its end. Of a frame of Ethernet these are six of preamble, the start frame
+ *     delimiter, and all from the addresses to the check sequence. None of them is looked at: a good frame may have a wrong check sequence.
  *
  * The frames are listed in order, each once, and no two overlap; a good one is its octets and then Terminate, and nothing else. Of a list
  * of which sending replaced no vector and whose first 64 vectors are of kind C, the vectors that are received have the same frames, with
@@ -524,8 +524,9 @@ uint64_t holzmotte_write_record(uint64_t kind, const uint8_t *body, size_t body_
  *         return result;
  *     }
  *
- * Vectors are listed in fours. Where those of a capture are not, idles go behind the last: they end a frame that is open there as bad, as the
- * end of the list does. A list that begins inside a capture does not see the word before its first: begin it one vector earlier. */
+ * Vectors are listed in fours. Where those of a capture do not come in fours, idles go behind the last: they end a frame that is open
+ * there as bad, as the end of the list does. Where a list begins inside a capture, the word before its first is not seen: begin it one
+ * vector earlier. */
 enum holzmotte_frame_number {
     HOLZMOTTE_FRAME_WORD = 0,   /* the word of its Start */
     HOLZMOTTE_FRAME_OCTETS = 1, /* how many octets it has */
