@@ -506,9 +506,10 @@ uint64_t holzmotte_write_record(uint64_t kind, const uint8_t *body, size_t body_
  *   - Its octets are the data octets after Start, up to its end. Of a frame of Ethernet these are six of preamble, the start frame
  *     delimiter, and all from the addresses to the check sequence. None of them is looked at: a good frame may have a wrong check sequence.
  *
- * The frames are listed in order, each once, and no two overlap; a good one is its octets and then Terminate, and nothing else. Of a list
- * of which sending replaced no vector and whose first 64 vectors are of kind C, the vectors that are received have the same frames, with
- * the same word numbers and characters. HOLZMOTTE_FRAMES_ROOM is room enough for any list. This is proved.
+ * The frames are listed in order, each once, and no two overlap; a good one is its octets and then Terminate, and nothing else. The
+ * frames of a list of which sending replaces no vector are good, but for one that is still open at its end. If moreover its first 64
+ * vectors are of kind C, the vectors that are received have the same frames, with the same word numbers and characters.
+ * HOLZMOTTE_FRAMES_ROOM is room enough for any list. This is proved.
  *
  * Word 10 of a receiving summary may count more frames than are listed: it counts the vectors with a Start, whatever stands before them.
  *

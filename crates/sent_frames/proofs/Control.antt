@@ -14,12 +14,12 @@ use Rattle.block.specs.declared.Edition.the-variants.{Old, New}
 use Rattle.block.specs.declared.Kind.the-variants.{LI}
 use Rattle.block.specs.Block.{Field, Format, dataBlock, controlBlocks, isC, lowPower, kindFor, flagOf, laneOf, codeFor, sentCode, carries, carrierKind, carrierBy, carrier, vectorKind}
 use Rattle.demands.specs.Words.{controlVector}
-use Rattle.frames.specs.Frames.{is, byFlag, starts}
+use Rattle.frames.specs.Frames.{starts}
 use Rattle.frames.proofs.Quiet.{and-both, and-false, is-control}
 
 module _ (ed : Edition) where
   -- some field takes character p, and takes no Start
-  abbrev refuses : ℕ → List Field → Bool
+  abbrev pub refuses : ℕ → List Field → Bool
   refuses p [] = false
   refuses p (f ∷ fs) = eqb (f .char) p && not (ltb (codeFor ed (f .slot) 1 0xfb) 256) || refuses p fs
 
@@ -29,7 +29,7 @@ module _ (ed : Edition) where
   noStart p (f ∷ fs) = (not (isC (f .kind)) || refuses p (f .fields)) && noStart p fs
 
   module _ (v : List ℕ) (p : ℕ) (flag : flagOf v p ≡ 1) (lane : laneOf v p ≡ 0xfb) where
-    not-carried : (fs : List Field) → refuses p fs ≡ true → carries ed v fs ≡ false
+    pub not-carried : (fs : List Field) → refuses p fs ≡ true → carries ed v fs ≡ false
     not-carried [] h = absurd (true≢false (sym h))
     not-carried (f ∷ fs) h = go (eqb (f .char) p && not (ltb (codeFor ed (f .slot) 1 0xfb) 256)) refl h (not-carried fs)
       where
@@ -77,16 +77,18 @@ tested : (ed : Edition) → (noStart ed 0 (dataBlock ∷ controlBlocks) ≡ true
 tested Old = (refl, refl)
 tested New = (refl, refl)
 
--- a word by its control byte and its first octet
-word-none : (w : List ℕ) → (getD w 0 0 / 1 % 2 ≡ 1 → getD w 1 0 ≡ 0xfb → ⊥) → starts w ≡ false
+-- a word with a Start, by its control byte and its first octet
+pub word-start : (w : List ℕ) → starts w ≡ true → (getD w 0 0 / 1 % 2 ≡ 1) × (getD w 1 0 ≡ 0xfb)
 unfolding starts
-word-none w n =
-    by-test (is 0xfb (byFlag (getD w 0 0 / 1 % 2) (getD w 1 0)))
-    (λ t. let c = is-control 0xfb (getD w 0 0 / 1 % 2) (getD w 1 0) t in absurd (n (one (getD w 0 0 / 1) (c .0)) (c .1)))
-    (λ t. t)
+word-start w s =
+    let c = is-control 0xfb (getD w 0 0 / 1 % 2) (getD w 1 0) s in
+    (one (getD w 0 0 / 1) (c .0), c .1)
   where
     one : (n : ℕ) → (n % 2 ≡ 0 → ⊥) → n % 2 ≡ 1
     one n h = omega arith
+
+word-none : (w : List ℕ) → (getD w 0 0 / 1 % 2 ≡ 1 → getD w 1 0 ≡ 0xfb → ⊥) → starts w ≡ false
+word-none w n = by-test (starts w) (λ t. let c = word-start w t in absurd (n (c .0) (c .1))) (λ t. t)
 
 module _ (ed : Edition) (bytes : List ℕ) (h : controlVector ed (take 10 bytes) ≡ true) where
   pub first-none : starts (take 5 bytes) ≡ false

@@ -1,3 +1,5 @@
+pub mod Carried
 pub mod Control
 pub mod Words
+pub mod Legal
 pub mod SentFrames

@@ -1,1 +1,1 @@
-// What is received has the frames of what was sent: a statement in specs/, its proof in proofs/. Laws only.
+// The frames of what is sent and received: statements in specs/, their proofs in proofs/. Laws only.
