@@ -12,7 +12,7 @@ use Rattle.refusals.specs.First.{check, checkAt, Verdict, accepted, refused, fi
 use Rattle.control_bytes.specs.Control.{highControl}
 use Rattle.frames.specs.Frames.{wordsIn, wordList}
 use Rattle.frames.proofs.Apart.{few-frames}
-use Rattle.frame_list.specs.Answer.{framesNumber, listed, ListAnswer, listChecks, listAnswer}
+use Rattle.frame_list.specs.Answer.{framesNumber, framesListed, ListAnswer, listChecks, listAnswer}
 use Rattle.frame_list.specs.Demand1.{RoomEnough}
 use Rattle.frame_list.specs.Answer as Answer
 
@@ -49,10 +49,10 @@ module _ (bytes : List ℕ) (list frames : ℕ) (e : frames ≡ cond (ltb (list 
 
 -- an answer tells it
 abbrev pub verdictOfList : ListAnswer → Verdict
-verdictOfList (listed frames) = accepted
+verdictOfList (framesListed frames) = accepted
 verdictOfList (Answer.refused number place) = refused number place
 
-told : (v : Verdict) (n : ℕ) → verdictOfList (byVerdict v (listed n) Answer.refused) ≡ v
+told : (v : Verdict) (n : ℕ) → verdictOfList (byVerdict v (framesListed n) Answer.refused) ≡ v
 told accepted n = refl
 told (refused m p) n = refl
 

@@ -17,7 +17,7 @@ use Rattle.frame_list.specs.declared.Listed.the-variants.{Done, Refused}
 abbrev pub entryWords : Frame → List ℕ
 entryWords f = f .word ∷ length (dataOctets (f .characters)) ∷ flagWord (isGood (f .characters)) ∷ []
 
--- "Each frame is listed once, in order": an entry is three words of 32 bits, 12 bytes
+-- "Each frame is framesListed once, in order": an entry is three words of 32 bits, 12 bytes
 unfoldable pub entries : List Frame → List ℕ
 entries [] = []
 entries (f ∷ fs) = wordBytes 4 (entryWords f) ++ entries fs
@@ -40,11 +40,11 @@ listChecks bytes list =
 
 -- the number of frames; or a refusal's number and place
 pub data ListAnswer : Type 0 where
-  listed : (frames : ℕ) → ListAnswer
+  framesListed : (frames : ℕ) → ListAnswer
   refused : (number place : ℕ) → ListAnswer
 
 unfoldable pub listAnswer : List ℕ → (list : ℕ) → ListAnswer
-listAnswer bytes list = byVerdict (first (listChecks bytes list)) (listed (framesNumber bytes)) refused
+listAnswer bytes list = byVerdict (first (listChecks bytes list)) (framesListed (framesNumber bytes)) refused
 
 -- "Success writes exactly the stated bytes from the start of the lent room; the rest is unchanged." A refusal changes nothing.
 unfoldable pub listAfter : List ℕ → List ℕ → List ℕ
@@ -53,7 +53,7 @@ listAfter bytes list =
 
 -- the document's number and values for each case of the answer
 abbrev pub answerOf : Listed → ListAnswer
-answerOf (Done n) = listed n
+answerOf (Done n) = framesListed n
 answerOf (Refused why place) = refused (numberOf why) place
 
 -- the promise: `list` was lent `list`, answered `r` and left `list′`

@@ -18,7 +18,7 @@ ghost use Rattle.frames.specs.Words.{nthWord, quietBefore, framesLeft};
 ghost use Rattle.frame_list.specs.Answer.{entries, framesIn, framesNumber, Lists};
 ghost use Rattle.frame_list.specs.Listing.{ListsOn};
 
-// The answer: how many frames were listed; or a refusal and its place.
+// The answer: how many frames were framesListed; or a refusal and its place.
 pub enum Listed {
     Done(usize),
     Refused(Refusal, usize),
@@ -73,7 +73,7 @@ fn inside(bytes: &[u8], list: &mut [u8], k: usize, n: usize, turns: usize) -> Re
     between(bytes, list, next, n + 1, turns - 1)
 }
 
-// All frames, listed from the start of the list; how many they are.
+// All frames, framesListed from the start of the list; how many they are.
 fn list_all(bytes: &[u8], list: &mut [u8]) -> usize
     requires { ⌜ (length (now bytes) ≤ 1000000) × (12 * framesNumber (now bytes) ≤ length (now list)) ⌝ }
     ensures { λ r. ⌜ (r ≡ framesNumber (now (bytes .entry))) × (now (list .exit) ≡ entries (framesIn (now (bytes .entry))) ++ drop (length (entries (framesIn (now (bytes .entry))))) (now (list .entry))) ⌝ }

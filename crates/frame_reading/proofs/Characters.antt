@@ -1,7 +1,7 @@
 -- What reading a character makes of a frame. Assumes nothing.
 use Prim.Native.Nat.{ℕ, _+_, _*_}
 use mathlib.Core.Path.{_≡_, refl, sym, _∙_}
-use mathlib.Core.Bool.{Bool, true, false, not, _&&_, true≢false}
+use mathlib.Core.Bool.{Bool, true, false, not, _&&_, true≢false, and-false, or-false}
 use mathlib.Core.List.{List, [], _∷_}
 use native.Mathlib.Omega.{arith}
 use lib.Dec.{eqb}
@@ -10,7 +10,7 @@ use borrow.Author.Tests.{eqb-true, ne-eqb}
 use Rattle.refusals.proofs.Laws.{by-test}
 use Rattle.frames.specs.Frames.{Character, dataOctet, controlCharacter, byFlag, laneCharacter, charactersOf, quiet, endsFrame, upToEnd, dataOctets, isGood, afterStart}
 use Rattle.frames.specs.Words.{nthWord}
-use Rattle.frames.proofs.Quiet.{and-false, or-false, lane-zero, lane-one, lane-two, lane-three, quiet-ends}
+use Rattle.frames.proofs.Quiet.{lane-zero, lane-one, lane-two, lane-three, quiet-ends}
 use Rattle.frame_reading.specs.Reading.{withCharacter, withThree, withWord, octetsIn, goodIn}
 use Rattle.frame_reading.specs.declared.Reading.{Reading}
 

@@ -8,14 +8,14 @@ use lib.ListN.{length}
 use Rattle.frames.specs.Frames.{Frame, starts}
 use Rattle.frames.specs.Words.{nthWord, quietBefore, framesLeft}
 use Rattle.frames.proofs.Words.{left-some, left-none}
-use Rattle.frame_starts.specs.Finds.{begun}
+use Rattle.frame_starts.specs.Finds.{beginsAt}
 
 -- a word more
-pub count-step : (bytes : List ℕ) (k r : ℕ) (before : Bool) → k < length bytes / 5 → before ≡ quietBefore bytes k → r ≡ begun before bytes k
+pub count-step : (bytes : List ℕ) (k r : ℕ) (before : Bool) → k < length bytes / 5 → before ≡ quietBefore bytes k → r ≡ beginsAt before bytes k
     → length (framesLeft bytes k) ≡ r + length (framesLeft bytes (k + 1))
-count-step bytes k r before h b e = go (quietBefore bytes k && starts (nthWord bytes k)) refl (e ∙ ap (λ (x : Bool). begun x bytes k) b)
+count-step bytes k r before h b e = go (quietBefore bytes k && starts (nthWord bytes k)) refl (e ∙ ap (λ (x : Bool). beginsAt x bytes k) b)
   where
-    go : (t : Bool) → (quietBefore bytes k && starts (nthWord bytes k)) ≡ t → r ≡ begun (quietBefore bytes k) bytes k
+    go : (t : Bool) → (quietBefore bytes k && starts (nthWord bytes k)) ≡ t → r ≡ beginsAt (quietBefore bytes k) bytes k
         → length (framesLeft bytes k) ≡ r + length (framesLeft bytes (k + 1))
     go true t e =
         let n : r ≡ 1 = e ∙ ap (λ (x : Bool). cond x 1 0) t in
@@ -27,10 +27,10 @@ count-step bytes k r before h b e = go (quietBefore bytes k && starts (nthWord b
         omega arith
 
 -- what the number says
-pub begun-yes : (b : Bool) (r : ℕ) → r ≡ cond b 1 0 → r ≡ 1 → b ≡ true
-begun-yes true r e o = refl
-begun-yes false r e o = absurd (omega arith)
+pub begins-yes : (b : Bool) (r : ℕ) → r ≡ cond b 1 0 → r ≡ 1 → b ≡ true
+begins-yes true r e o = refl
+begins-yes false r e o = absurd (omega arith)
 
-pub begun-no : (b : Bool) (r : ℕ) → r ≡ cond b 1 0 → (r ≡ 1 → ⊥) → b ≡ false
-begun-no true r e n = absurd (n e)
-begun-no false r e n = refl
+pub begins-no : (b : Bool) (r : ℕ) → r ≡ cond b 1 0 → (r ≡ 1 → ⊥) → b ≡ false
+begins-no true r e n = absurd (n e)
+begins-no false r e n = refl

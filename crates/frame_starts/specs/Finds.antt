@@ -8,8 +8,8 @@ use Rattle.frames.specs.Frames.{starts}
 use Rattle.frames.specs.Words.{nthWord, quietBefore, framesLeft}
 
 -- 1 where a frame begins in word k, 0 where none does; `before` says whether it may
-abbrev pub begun : (before : Bool) → List ℕ → ℕ → ℕ
-begun before bytes k = cond (before && starts (nthWord bytes k)) 1 0
+abbrev pub beginsAt : (before : Bool) → List ℕ → ℕ → ℕ
+beginsAt before bytes k = cond (before && starts (nthWord bytes k)) 1 0
 
 -- the next word from k on where a frame begins; the end of the words if there is none
 pub record FindsStart (bytes : List ℕ) (k r : ℕ) : Type 0 where

@@ -6,7 +6,7 @@ ghost use Prim.Native.Nat.{_/_, _<_, _≤_};
 ghost use lib.ListN.{length};
 ghost use Rattle.frames.specs.Frames.{wordList, framesOf};
 ghost use Rattle.frames.specs.Words.{quietBefore};
-ghost use Rattle.frame_starts.specs.Finds.{begun, FindsStart};
+ghost use Rattle.frame_starts.specs.Finds.{beginsAt, FindsStart};
 
 // Whether a frame may begin in word k, by the word before it.
 fn quiet_before(bytes: &[u8], k: usize) -> bool
@@ -22,7 +22,7 @@ fn quiet_before(bytes: &[u8], k: usize) -> bool
 // 1 where a frame begins in this word, 0 where none does.
 fn begins(before: bool, bytes: &[u8], k: usize) -> usize
     requires { ⌜ k < length (now bytes) / 5 ⌝ }
-    ensures { λ r. ⌜ (r ≡ begun before (now (bytes .entry)) k) × (r ≤ 1) ⌝ }
+    ensures { λ r. ⌜ (r ≡ beginsAt before (now (bytes .entry)) k) × (r ≤ 1) ⌝ }
 {
     let starts = starts_at(bytes, k);
     if before {

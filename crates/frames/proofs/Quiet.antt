@@ -1,7 +1,7 @@
 -- The tests of one word, and what they say of a frame that is open there. Assumes nothing.
 use Prim.Native.Nat.{ℕ, zero, suc, _+_, _*_, _/_, _%_, _<_}
 use mathlib.Core.Path.{_≡_, refl, sym, ap, ap₂, _∙_}
-use mathlib.Core.Bool.{Bool, true, false, not, cond, _&&_, _||_, true≢false}
+use mathlib.Core.Bool.{Bool, true, false, not, cond, _&&_, _||_, true≢false, and-eq-true-iff, and-true, and-false, or-false}
 use mathlib.Core.List.{List}
 use native.Mathlib.Omega.{arith}
 use native.Mathlib.Nat.{div-one}
@@ -11,25 +11,12 @@ use borrow.Author.Tests.{eqb-true, eqb-false, eq-eqb, ne-eqb}
 use Rattle.refusals.proofs.Laws.{by-test}
 use Rattle.bits.specs.Bits.{number, lineBit}
 use Rattle.line.proofs.Laws.{bytesAt, bytesAt-number}
-use Rattle.frames.specs.Frames.{Character, dataOctet, controlCharacter, byFlag, laneCharacter, isData, is, fourIdles, sequenceSet, quiet, starts, endsFrame}
+use Rattle.frames.specs.Frames.{Character, dataOctet, controlCharacter, byFlag, laneCharacter, isDataOctet, is, fourIdles, sequenceSet, quiet, starts, endsFrame}
 use Rattle.frames.specs.Words.{nthWord}
 use Rattle.frames.proofs.Words.{word-byte, word-first}
 
 pub and-both : (a b : Bool) → (a && b) ≡ true → (a ≡ true) × (b ≡ true)
-and-both true b e = (refl, e)
-and-both false b e = absurd (true≢false (sym e))
-
-pub and-false : (b : Bool) → (b && false) ≡ false
-and-false true = refl
-and-false false = refl
-
-and-true : (b : Bool) → (b && true) ≡ b
-and-true true = refl
-and-true false = refl
-
-pub or-false : (b : Bool) → (b || false) ≡ b
-or-false true = refl
-or-false false = refl
+and-both a b e = and-eq-true-iff a b .0 e
 
 either : {C : Type 0} (a b : Bool) → (a || b) ≡ true → (a ≡ true → C) → (b ≡ true → C) → C
 either true b e f g = f refl
@@ -44,10 +31,10 @@ is-control x f o h = go (eqb f 0) refl h
     go true e h = absurd (true≢false (sym h))
     go false e h = (eqb-false f 0 e, eqb-true o x h)
 
-is-data : (f o : ℕ) → isData (byFlag f o) ≡ true → f ≡ 0
+is-data : (f o : ℕ) → isDataOctet (byFlag f o) ≡ true → f ≡ 0
 is-data f o h = go (eqb f 0) refl h
   where
-    go : (b : Bool) → eqb f 0 ≡ b → isData (cond b (dataOctet o) (controlCharacter o)) ≡ true → f ≡ 0
+    go : (b : Bool) → eqb f 0 ≡ b → isDataOctet (cond b (dataOctet o) (controlCharacter o)) ≡ true → f ≡ 0
     go true e h = eqb-true f 0 e
     go false e h = absurd (true≢false (sym h))
 

@@ -31,9 +31,9 @@ unfoldable pub charactersOf : List (List ℕ) → List Character
 charactersOf [] = []
 charactersOf (w ∷ ws) = laneCharacter w 0 ∷ laneCharacter w 1 ∷ laneCharacter w 2 ∷ laneCharacter w 3 ∷ charactersOf ws
 
-abbrev pub isData : Character → Bool
-isData (dataOctet o) = true
-isData (controlCharacter c) = false
+abbrev pub isDataOctet : Character → Bool
+isDataOctet (dataOctet o) = true
+isDataOctet (controlCharacter c) = false
 
 -- a control character is this one: 07 idle, 9c sequence ordered set, fb Start, fd Terminate, fe error
 abbrev pub is : ℕ → Character → Bool
@@ -48,7 +48,7 @@ fourIdles w = is 0x07 (laneCharacter w 0) && is 0x07 (laneCharacter w 1) && is 0
 
 -- "a sequence ordered set": 9c in lane 0, and data in the others
 abbrev pub sequenceSet : List ℕ → Bool
-sequenceSet w = is 0x9c (laneCharacter w 0) && isData (laneCharacter w 1) && isData (laneCharacter w 2) && isData (laneCharacter w 3)
+sequenceSet w = is 0x9c (laneCharacter w 0) && isDataOctet (laneCharacter w 1) && isDataOctet (laneCharacter w 2) && isDataOctet (laneCharacter w 3)
 
 -- a frame may begin after it: "the word before was four idles or a sequence ordered set"
 unfoldable pub quiet : List ℕ → Bool

@@ -7,13 +7,13 @@ use Rattle.refusals.specs.First.{check, Verdict, accepted, refused, first, byVe
 use Rattle.refusals.proofs.Outcome.{outcome}
 use Rattle.lent_words.specs.Words.{oneMoreAfter, tooShort, summaryWith}
 use Rattle.lent_words.proofs.Demand1.{through}
-use Rattle.frame_list.specs.Answer.{entries, framesIn, framesNumber, listed, listChecks, listAfter}
+use Rattle.frame_list.specs.Answer.{entries, framesIn, framesNumber, framesListed, listChecks, listAfter}
 use Rattle.frame_list.specs.Answer as Answer
 use Rattle.holzmotte_frames.specs.Boundary.{framesVerdict, framesWords, framesResult, framesList, framesSummary}
 use Rattle.holzmotte_frames.specs.Demand1.{Demand1OfListThroughC}
 
 -- the summary's word by a verdict
-frames-words : (v : Verdict) (n : ℕ) → framesWords (byVerdict v (listed n) Answer.refused) ≡ byVerdict v (n ∷ []) (λ number place. replicate 1 0)
+frames-words : (v : Verdict) (n : ℕ) → framesWords (byVerdict v (framesListed n) Answer.refused) ≡ byVerdict v (n ∷ []) (λ number place. replicate 1 0)
 frames-words accepted n = refl
 frames-words (refused m p) n = refl
 

@@ -6,7 +6,7 @@ use mathlib.Core.List.{List, [], _∷_}
 use lib.ListN.{length}
 use Rattle.refusals.specs.First.{check, Verdict, first, byVerdict}
 use Rattle.lent_words.specs.Words.{resultOf, oneMoreAfter, tooShort, summaryWith}
-use Rattle.frame_list.specs.Answer.{framesNumber, ListAnswer, listed, refused, listChecks, listAfter}
+use Rattle.frame_list.specs.Answer.{framesNumber, ListAnswer, framesListed, refused, listChecks, listAfter}
 
 -- 1, 2, 5, then 4 for the summary, with place 0, then 4 for the list, with the number of frames as its place
 unfoldable pub framesVerdict : List ℕ → (list summary : ℕ) → Verdict
@@ -14,7 +14,7 @@ framesVerdict bytes list summary = first (oneMoreAfter 3 (check 4 (tooShort 8 1 
 
 -- its one word: the number of frames; zero for a refusal
 abbrev pub framesWords : ListAnswer → List ℕ
-framesWords (listed frames) = frames ∷ []
+framesWords (framesListed frames) = frames ∷ []
 framesWords (refused number place) = 0 ∷ []
 
 unfoldable pub framesResult : List ℕ → (list summary : ℕ) → ℕ
@@ -26,7 +26,7 @@ framesList bytes list summary = byVerdict (framesVerdict bytes (length list) sum
 
 unfoldable pub framesSummary : List ℕ → (list : ℕ) → List ℕ → List ℕ
 framesSummary bytes list summary =
-    summaryWith 1 (framesWords (byVerdict (framesVerdict bytes list (length summary)) (listed (framesNumber bytes)) refused)) summary
+    summaryWith 1 (framesWords (byVerdict (framesVerdict bytes list (length summary)) (framesListed (framesNumber bytes)) refused)) summary
 
 -- the promise: `holzmotte_frames` was lent `list` and `summary`, returned `r` and left `list′` and `summary′`
 abbrev pub ListsThroughC : (bytes list summary : List ℕ) (r : ℕ) (list′ summary′ : List ℕ) → Type 0

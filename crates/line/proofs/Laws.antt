@@ -144,6 +144,17 @@ put-more at n k us vs l l′ m p q h e f =
     ∙ ap₂ (λ (i j : ℕ). take (at + i) (put at us l) ++ vs ++ drop (at + i + j) (put at us l)) (sym p) (sym q)
     ∙ put-put at us vs l (omega arith)
 
+-- the eight bytes of a word: four of it, and four of its upper half
+pub halves-put : (at w : ℕ) (l l₁ l₂ : List ℕ) → at + 8 ≤ length l
+    → l₁ ≡ take at l ++ cut 8 (bit w) 4 ++ drop (at + 4) l
+    → l₂ ≡ take (at + 4) l₁ ++ cut 8 (bit (w / 4294967296)) 4 ++ drop (at + 4 + 4) l₁
+    → l₂ ≡ take at l ++ cut 8 (bit w) 8 ++ drop (at + 8) l
+unfolding cut
+halves-put at w l l₁ l₂ h e₁ e₂ =
+    let c : cut 8 (bit (w / 4294967296)) 4 ≡ cut 8 (λ i. bit w (32 + i)) 4 = cut-same 8 4 (bit (w / 4294967296)) (λ i. bit w (32 + i)) (λ i m. bit-shr w 32 i) in
+    put-more at 4 4 (cut 8 (bit w) 4) (cut 8 (bit (w / 4294967296)) 4) l l₁ l₂ refl refl (omega arith) e₁ e₂
+    ∙ ap (λ (x : List ℕ). take at l ++ x ++ drop (at + 8) l) (ap (λ (x : List ℕ). cut 8 (bit w) 4 ++ x) c ∙ sym (cut-add 8 4 4 (bit w)))
+
 set-put : (l : List ℕ) (i x : ℕ) → i < length l → set l i x ≡ take i l ++ (x ∷ []) ++ drop (i + 1) l
 set-put l i x h =
     set-split l i x h ∙ ap (λ (n : ℕ). take i l ++ x ∷ drop n l) (sym (add-one i)) ∙ sym (append-snoc (take i l) x (drop (i + 1) l))

@@ -61,21 +61,6 @@ pub fn header_at(s: &[u8], pos: usize) -> u64
     (two >> (pos % 8)) % 4
 }
 
-// Eight whole bytes put on the line.
-pub fn store(room: &mut [u8], at: usize, w: u64)
-    requires { ⌜ at + 8 ≤ length (now room) ⌝ }
-    ensures { λ r. ⌜ now (room .exit) ≡ take at (now (room .entry)) ++ cut 8 (bit w) 8 ++ drop (at + 8) (now (room .entry)) ⌝ }
-{
-    room[at] = (w % 256) as u8;
-    room[at + 1] = (w / 256 % 256) as u8;
-    room[at + 2] = (w / 65536 % 256) as u8;
-    room[at + 3] = (w / 16777216 % 256) as u8;
-    room[at + 4] = (w / 4294967296 % 256) as u8;
-    room[at + 5] = (w / 1099511627776 % 256) as u8;
-    room[at + 6] = (w / 281474976710656 % 256) as u8;
-    room[at + 7] = (w / 72057594037927936 % 256) as u8;
-}
-
 // Four whole bytes put on the line: the lower half of a word.
 pub fn store_half(room: &mut [u8], at: usize, w: u64)
     requires { ⌜ at + 4 ≤ length (now room) ⌝ }
@@ -85,6 +70,15 @@ pub fn store_half(room: &mut [u8], at: usize, w: u64)
     room[at + 1] = (w / 256 % 256) as u8;
     room[at + 2] = (w / 65536 % 256) as u8;
     room[at + 3] = (w / 16777216 % 256) as u8;
+}
+
+// Eight whole bytes put on the line.
+pub fn store(room: &mut [u8], at: usize, w: u64)
+    requires { ⌜ at + 8 ≤ length (now room) ⌝ }
+    ensures { λ r. ⌜ now (room .exit) ≡ take at (now (room .entry)) ++ cut 8 (bit w) 8 ++ drop (at + 8) (now (room .entry)) ⌝ }
+{
+    store_half(room, at, w);
+    store_half(room, at + 4, w / 4294967296);
 }
 
 // Four words and a byte put on the line.

@@ -1,13 +1,13 @@
 -- No word of a control vector has a Start. Assumes nothing.
 use Prim.Native.Nat.{ℕ, _/_, _%_}
 use mathlib.Core.Path.{_≡_, refl, sym, ap, ap₂, _∙_}
-use mathlib.Core.Bool.{Bool, true, false, cond, not, _&&_, _||_, true≢false}
+use mathlib.Core.Bool.{Bool, true, false, cond, not, _&&_, _||_, true≢false, and-false}
 use mathlib.Core.List.{List, [], _∷_}
 use native.Mathlib.Omega.{arith}
 use lib.Dec.{eqb, ltb}
 use lib.ListN.{getD, take, drop}
 use lib.Seq.{getD-take, getD-drop}
-use borrow.Author.Tests.{eqb-true}
+use borrow.Author.Tests.{eqb-true, not-true}
 use Rattle.refusals.proofs.Laws.{by-test}
 use Rattle.block.specs.declared.Edition.{Edition}
 use Rattle.block.specs.declared.Edition.the-variants.{Old, New}
@@ -15,7 +15,7 @@ use Rattle.block.specs.declared.Kind.the-variants.{LI}
 use Rattle.block.specs.Block.{Field, Format, dataBlock, controlBlocks, isC, lowPower, kindFor, flagOf, laneOf, codeFor, sentCode, carries, carrierKind, carrierBy, carrier, vectorKind}
 use Rattle.demands.specs.Words.{controlVector}
 use Rattle.frames.specs.Frames.{starts}
-use Rattle.frames.proofs.Quiet.{and-both, and-false, is-control}
+use Rattle.frames.proofs.Quiet.{and-both, is-control}
 
 module _ (ed : Edition) where
   -- some field takes character p, and takes no Start
@@ -33,10 +33,6 @@ module _ (ed : Edition) where
     not-carried [] h = absurd (true≢false (sym h))
     not-carried (f ∷ fs) h = go (eqb (f .char) p && not (ltb (codeFor ed (f .slot) 1 0xfb) 256)) refl h (not-carried fs)
       where
-        is-false : (b : Bool) → not b ≡ true → b ≡ false
-        is-false true h = absurd (true≢false (sym h))
-        is-false false h = refl
-
         go : (b : Bool) → (eqb (f .char) p && not (ltb (codeFor ed (f .slot) 1 0xfb) 256)) ≡ b → (b || refuses p fs) ≡ true
             → (refuses p fs ≡ true → carries ed v fs ≡ false) → (ltb (sentCode ed v f) 256 && carries ed v fs) ≡ false
         go true e h rest =
@@ -44,7 +40,7 @@ module _ (ed : Edition) where
             let c : f .char ≡ p = eqb-true (f .char) p (q .0) in
             let s : sentCode ed v f ≡ codeFor ed (f .slot) 1 0xfb =
             ap₂ (codeFor ed (f .slot)) (ap (flagOf v) c ∙ flag) (ap (laneOf v) c ∙ lane) in
-            ap (λ (n : ℕ). ltb n 256 && carries ed v fs) s ∙ ap (λ (b : Bool). b && carries ed v fs) (is-false (ltb (codeFor ed (f .slot) 1 0xfb) 256) (q .1))
+            ap (λ (n : ℕ). ltb n 256 && carries ed v fs) s ∙ ap (λ (b : Bool). b && carries ed v fs) (not-true (ltb (codeFor ed (f .slot) 1 0xfb) 256) (q .1))
         go false e h rest = ap (λ (b : Bool). ltb (sentCode ed v f) 256 && b) (rest h) ∙ and-false (ltb (sentCode ed v f) 256)
 
     -- low power idle is not of kind C

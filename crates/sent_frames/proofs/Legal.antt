@@ -7,6 +7,7 @@ use native.Mathlib.Omega.{arith}
 use lib.Dec.{eqb}
 use lib.ListN.{length, getD, take, drop}
 use lib.Seq.{getD-take, getD-drop, drop-drop}
+use borrow.Author.Tests.{not-true}
 use Rattle.block.specs.declared.Edition.{Edition}
 use Rattle.block.specs.declared.Edition.the-variants.{Old, New}
 use Rattle.block.specs.declared.Kind.{Kind}
@@ -80,17 +81,13 @@ module _ (ed : Edition) where
         (λ f u c e. go f c e (refuses ed p (f .fields)) refl u)
         (λ e. absurd (not-error e))
       where
-        is-false : (b : Bool) → not b ≡ true → b ≡ false
-        is-false true h = absurd (true≢false (sym h))
-        is-false false h = refl
-
         go : (f : Format) → carries ed v (f .fields) ≡ true → vectorKind ed v ≡ kindFor f v → (b : Bool) → refuses ed p (f .fields) ≡ b
             → (b || isS (f .kind) && not (eqb (f .type) 0x1e) && dataRun (f .fields) (suc p) n) ≡ true → Begun p n rest
         go f c e true r u = absurd (true≢false (sym c ∙ not-carried ed v p flag lane (f .fields) r))
         go f c e false r u =
             let q = and-both (isS (f .kind) && not (eqb (f .type) 0x1e)) (dataRun (f .fields) (suc p) n) u in
             let o = and-both (isS (f .kind)) (not (eqb (f .type) 0x1e)) (q .0) in
-            let i : eqb (f .type) 0x1e ≡ false = is-false (eqb (f .type) 0x1e) (o .1) in
+            let i : eqb (f .type) 0x1e ≡ false = not-true (eqb (f .type) 0x1e) (o .1) in
             let k : kindFor f v ≡ f .kind = ap (λ (b : Bool). cond (b && same v lowPowerVector) LI (f .kind)) i in
             (ap isS (e ∙ k) ∙ o .0, data-fine ed v (f .fields) (suc p) n rest (q .1) c)
 
@@ -151,16 +148,12 @@ kind-s T h = absurd (true≢false (sym h))
 kind-s E h = absurd (true≢false (sym h))
 kind-s LI h = absurd (true≢false (sym h))
 
-is-not : (b : Bool) → not b ≡ true → b ≡ false
-is-not true h = absurd (true≢false (sym h))
-is-not false h = refl
-
 module _ (ed : Edition) where
   -- what a legal list says of its first vector and of the others
   legal-first : (s : State) (v : List ℕ) (vs : List (List ℕ)) → legalFrom ed s (v ∷ vs) ≡ true
       → (inError (transmitOf s (vectorKind ed v)) ≡ false) × (legalFrom ed (transmitOf s (vectorKind ed v)) vs ≡ true)
   unfolding legalFrom
-  legal-first s v vs h = let q = and-both (not (inError (transmitOf s (vectorKind ed v)))) _ h in (is-not _ (q .0), q .1)
+  legal-first s v vs h = let q = and-both (not (inError (transmitOf s (vectorKind ed v)))) _ h in (not-true _ (q .0), q .1)
 
   -- the words of one vector more
   words-more : (n : ℕ) (bytes : List ℕ) → wordsIn (2 * suc n) bytes ≡ take 5 bytes ∷ take 5 (drop 5 bytes) ∷ wordsIn (2 * n) (drop 10 bytes)

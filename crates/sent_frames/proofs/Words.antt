@@ -1,7 +1,7 @@
 -- Words without a Start begin no frame, and are passed. Assumes nothing.
 use Prim.Native.Nat.{ℕ, zero, suc, _+_, _*_}
 use mathlib.Core.Path.{_≡_, refl, sym, ap, _∙_}
-use mathlib.Core.Bool.{Bool, true, false, cond, _&&_}
+use mathlib.Core.Bool.{Bool, true, false, cond, _&&_, and-false}
 use mathlib.Core.List.{List, [], _∷_, _++_}
 use native.Mathlib.Omega.{arith}
 use lib.ListN.{length, take, drop}
@@ -10,7 +10,7 @@ use Rattle.block.specs.declared.Edition.{Edition}
 use Rattle.transmit.specs.Send.{vectorsIn}
 use Rattle.demands.specs.Words.{controlVector, controlVectors}
 use Rattle.frames.specs.Frames.{wordsIn, quiet, starts, upToEnd, afterStart, framesFrom}
-use Rattle.frames.proofs.Quiet.{and-both, and-false}
+use Rattle.frames.proofs.Quiet.{and-both}
 use Rattle.sent_frames.proofs.Control.{first-none, second-none}
 
 -- no word has a Start

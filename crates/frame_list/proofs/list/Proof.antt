@@ -6,7 +6,7 @@ use denote.Ref.{now}
 use native.Mathlib.Omega.{arith}
 use borrow.Author.Tests.{le-ltb, lt-ltb, ltb-false, eq-eqb, ne-eqb}
 use Rattle.refusals.specs.First.{first}
-use Rattle.frame_list.specs.Answer.{framesNumber, listed, refused, listChecks, listAnswer, listAfter}
+use Rattle.frame_list.specs.Answer.{framesNumber, framesListed, refused, listChecks, listAnswer, listAfter}
 use Rattle.frame_list.proofs.Answers.{counted-small, counted-room}
 use borrow.Author.Needs.{needs}
 use Rattle.frame_list.proofs.list.Statement.{statement}
@@ -87,7 +87,7 @@ returns-5 c =
     let h = sym (first-high .ensures) in
     let f = le-ltb _ _ (if3 .left) in
     let r = counted-room (now (args .vectors)) (length (now (args .list))) (counted .result) (counted .ensures .0) (if4 .left) in
-    (simp (a, b, h, f, r) (ap listed (list-all .ensures .0)), simp (a, b, h, f, r) (list-all .ensures .1))
+    (simp (a, b, h, f, r) (ap framesListed (list-all .ensures .0)), simp (a, b, h, f, r) (list-all .ensures .1))
 
 pub list-spec : {M : Type 1} → statement M
 list-spec =

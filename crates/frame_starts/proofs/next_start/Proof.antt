@@ -9,7 +9,7 @@ use borrow.Author.Needs.{needs}
 use Rattle.frames.specs.Frames.{starts}
 use Rattle.frames.specs.Words.{nthWord, quietBefore, framesLeft}
 use Rattle.frames.proofs.Words.{quiet-next, left-none}
-use Rattle.frame_starts.proofs.Counting.{begun-yes, begun-no}
+use Rattle.frame_starts.proofs.Counting.{begins-yes, begins-no}
 use Rattle.frame_starts.proofs.next_start.Statement.{statement}
 use Rattle.frame_starts.proofs.next_start.Tie as tie
 
@@ -35,7 +35,7 @@ returns c =
     let begins = c .before .begins in
     let b = now (args .bytes) in
     let j = loop .j in
-    let y = begun-yes (loop .before && starts (nthWord b j)) (begins .result) (begins .ensures .0) (c .if1 .taken) in
+    let y = begins-yes (loop .before && starts (nthWord b j)) (begins .result) (begins .ensures .0) (c .if1 .taken) in
     record { later = loop .inv .0; within = loop .inv .1; rest = loop .inv .3; begins = λ h. ap (λ (q : Bool). q && starts (nthWord b j)) (sym (loop .inv .2)) ∙ y }
 
 quiet-at-requires : tie.Need-quiet-at-requires Inv-loop μ-loop
@@ -51,7 +51,7 @@ loop-again : tie.Need-loop-again Inv-loop μ-loop
 loop-again c =
     let b = now (c .before .before .before .before .before .before .before .args .bytes) in
     let j = c .before .before .before .before .loop .j in
-    let y = begun-no (c .before .before .before .before .loop .before && starts (nthWord b j)) (c .before .before .begins .result) (c .before .before .begins .ensures .0) (c .before .if1 .left) in
+    let y = begins-no (c .before .before .before .before .loop .before && starts (nthWord b j)) (c .before .before .begins .result) (c .before .before .begins .ensures .0) (c .before .if1 .left) in
     let z : (quietBefore b j && starts (nthWord b j)) ≡ false = ap (λ (q : Bool). q && starts (nthWord b j)) (sym (c .before .before .before .before .loop .inv .2)) ∙ y in
     (omega arith, omega arith, c .quiet-at .ensures ∙ sym (quiet-next b j), c .before .before .before .before .loop .inv .3 ∙ left-none b j (c .before .before .before .loop-test .taken) z)
 

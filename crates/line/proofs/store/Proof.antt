@@ -1,128 +1,24 @@
--- `line::store` meets its contract. Assumes nothing.
-use mathlib.Core.Path.{sym, ap, ap₂, _∙_}
-use mathlib.Core.List.{List, [], _∷_, _++_}
-use Prim.Native.Nat.{ℕ, _+_, _/_, _%_}
-use native.Mathlib.Nat.{add-zero, div-one}
-use native.Mathlib.Omega.{arith}
-use lib.ListN.{take, drop, set, length-set}
+-- `line::store` meets its contract: two halves. Assumes nothing.
 use denote.Ref.{now}
-use Rattle.line.proofs.Laws.{run, run-eq, bytesFrom, cut-word}
+use Rattle.line.proofs.Laws.{halves-put}
 use borrow.Author.Needs.{needs}
 use Rattle.line.proofs.store.Statement.{statement}
 use Rattle.line.proofs.store.Tie as tie
 
-cast-room : tie.Need-cast-room
-cast-room c = search needs
+store-half-requires : tie.Need-store-half-requires
+store-half-requires c κs = search needs
 
-slice-write-room : tie.Need-slice-write-room
-slice-write-room c = search needs
+add-store-half : tie.Need-add-store-half
+add-store-half c = search needs
 
-cast-room-2 : tie.Need-cast-room-2
-cast-room-2 c = search needs
-
-add-room : tie.Need-add-room
-add-room c = search needs
-
-slice-write-room-2 : tie.Need-slice-write-room-2
-slice-write-room-2 c = simp length-set (omega arith)
-
-cast-room-3 : tie.Need-cast-room-3
-cast-room-3 c = search needs
-
-add-room-2 : tie.Need-add-room-2
-add-room-2 c = search needs
-
-slice-write-room-3 : tie.Need-slice-write-room-3
-slice-write-room-3 c = simp length-set (omega arith)
-
-cast-room-4 : tie.Need-cast-room-4
-cast-room-4 c = search needs
-
-add-room-3 : tie.Need-add-room-3
-add-room-3 c = search needs
-
-slice-write-room-4 : tie.Need-slice-write-room-4
-slice-write-room-4 c = simp length-set (omega arith)
-
-cast-room-5 : tie.Need-cast-room-5
-cast-room-5 c = search needs
-
-add-room-4 : tie.Need-add-room-4
-add-room-4 c = search needs
-
-slice-write-room-5 : tie.Need-slice-write-room-5
-slice-write-room-5 c = simp length-set (omega arith)
-
-cast-room-6 : tie.Need-cast-room-6
-cast-room-6 c = search needs
-
-add-room-5 : tie.Need-add-room-5
-add-room-5 c = search needs
-
-slice-write-room-6 : tie.Need-slice-write-room-6
-slice-write-room-6 c = simp length-set (omega arith)
-
-cast-room-7 : tie.Need-cast-room-7
-cast-room-7 c = search needs
-
-add-room-6 : tie.Need-add-room-6
-add-room-6 c = search needs
-
-slice-write-room-7 : tie.Need-slice-write-room-7
-slice-write-room-7 c = simp length-set (omega arith)
-
-cast-room-8 : tie.Need-cast-room-8
-cast-room-8 c = search needs
-
-add-room-7 : tie.Need-add-room-7
-add-room-7 c = search needs
-
-slice-write-room-8 : tie.Need-slice-write-room-8
-slice-write-room-8 c = simp length-set (omega arith)
+store-half-requires-2 : tie.Need-store-half-requires-2
+store-half-requires-2 c κs = search needs
 
 same-length : tie.Need-same-length
 same-length c = search needs
 
 returns : tie.Need-returns
-unfolding run bytesFrom
-returns c =
-    let d = now (c .args .room) in
-    let at = c .args .at in
-    let w = c .args .w in
-    let chain : ℕ → ℕ → List ℕ =
-    λ i x.
-    run (set d i x) at 1
-    (w / 256 % 256 ∷ w / 65536 % 256 ∷ w / 16777216 % 256 ∷ w / 4294967296 % 256 ∷ w / 1099511627776 % 256 ∷ w / 281474976710656 % 256
-    ∷ w / 72057594037927936 % 256 ∷ []) in
-    ap₂ chain (sym (add-zero at)) (ap (λ (x : ℕ). x % 256) (sym (div-one w)))
-    ∙ run-eq (bytesFrom w 0 8) d at (c .pre) ∙ ap (λ (b : List ℕ). take at d ++ b ++ drop (at + 8) d) (sym (cut-word w 8))
+returns c = halves-put (c .before .before .before .before .before .before .before .before .before .args .at) (c .before .before .before .before .before .before .before .before .before .args .w) (now (c .before .before .before .before .before .before .before .before .before .args .room)) _ _ (c .before .before .before .before .before .before .before .before .before .pre) (c .before .before .before .before .before .before .store-half .ensures) (c .before .before .store-half2 .ensures)
 
 pub store-spec : {M : Type 1} → statement M
-store-spec =
-    tie.close
-    (tie.spec
-    cast-room
-    slice-write-room
-    cast-room-2
-    add-room
-    slice-write-room-2
-    cast-room-3
-    add-room-2
-    slice-write-room-3
-    cast-room-4
-    add-room-3
-    slice-write-room-4
-    cast-room-5
-    add-room-4
-    slice-write-room-5
-    cast-room-6
-    add-room-5
-    slice-write-room-6
-    cast-room-7
-    add-room-6
-    slice-write-room-7
-    cast-room-8
-    add-room-7
-    slice-write-room-8
-    same-length
-    returns)
+store-spec = tie.close (tie.spec store-half-requires add-store-half store-half-requires-2 same-length returns)
