@@ -513,7 +513,7 @@ uint64_t holzmotte_write_record(uint64_t kind, const uint8_t *body, size_t body_
  *
  * Word 10 of a receiving summary may count more frames than are listed: it counts the vectors with a Start, whatever stands before them.
  *
- * Here `show` gets each frame that was received:
+ * Here `show` gets each frame of a list of vectors:
  *
  *     static uint64_t show_frames(const uint8_t *vectors, size_t vectors_len, uint8_t *list, size_t list_len)
  *     {

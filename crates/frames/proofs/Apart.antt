@@ -1,6 +1,6 @@
--- Frames stand in order and do not overlap, and a good one is its octets and Terminate. Assumes nothing.
+-- Frames stand in order and do not overlap, one that is still open is the last, and a good one is its octets and Terminate. Assumes nothing.
 use Prim.Native.Nat.{ℕ, suc, _+_, _*_, _≤_, _<_}
-use mathlib.Core.Path.{_≡_, refl, sym, ap}
+use mathlib.Core.Path.{_≡_, refl, sym, ap, _∙_}
 use mathlib.Core.Bool.{Bool, true, false, not, cond, _&&_, _||_, true≢false}
 use mathlib.Core.List.{List, [], _∷_, _++_, map}
 use native.Mathlib.Omega.{arith}
@@ -9,7 +9,7 @@ use lib.ListN.{length}
 use borrow.Author.Tests.{eqb-true}
 use Rattle.refusals.proofs.Laws.{by-test}
 use Rattle.frames.specs.Frames.{Character, dataOctet, controlCharacter, laneCharacter, charactersOf, quiet, starts, endsFrame, upToEnd, dataOctets, isGood, afterStart, Frame, framesFrom}
-use Rattle.frames.specs.Apart.{OverBefore, InOrder, FramesApart, FewFrames, GoodFrames}
+use Rattle.frames.specs.Apart.{OverBefore, InOrder, FramesApart, isOpen, OpenLast, OpenFrames, FewFrames, GoodFrames}
 use Rattle.frames.proofs.Quiet.{and-both, quiet-ends, start-loud}
 
 -- ---- how far a frame reaches
@@ -100,6 +100,51 @@ in-order before k (w ∷ ws) = go (before && starts w) refl (in-order (quiet w) 
 
 pub frames-apart : FramesApart
 frames-apart words = in-order false 0 words
+
+-- ---- one that is still open is the last
+
+-- a character before it
+open-more : (c : Character) (cs : List Character) → isOpen (upToEnd (c ∷ cs)) ≡ true → (endsFrame c ≡ false) × (isOpen (upToEnd cs) ≡ true)
+unfolding upToEnd
+open-more c cs h = go (endsFrame c) h
+  where
+    go : (b : Bool) → (not b && isOpen (cond b [] (upToEnd cs))) ≡ true → (b ≡ false) × (isOpen (upToEnd cs) ≡ true)
+    go true h = absurd (true≢false (sym h))
+    go false h = (refl, h)
+
+-- inside it no frame begins, up to the end
+open-none : (k : ℕ) (ws : List (List ℕ)) → isOpen (upToEnd (charactersOf ws)) ≡ true → framesFrom false k ws ≡ []
+unfolding framesFrom charactersOf
+open-none k [] h = refl
+open-none k (w ∷ ws) h =
+    let a = open-more (laneCharacter w 0) _ h in
+    let b = open-more (laneCharacter w 1) _ (a .1) in
+    let c = open-more (laneCharacter w 2) _ (b .1) in
+    let d = open-more (laneCharacter w 3) (charactersOf ws) (c .1) in
+    by-test (quiet w)
+    (λ q. absurd (true≢false (sym (quiet-ends w q) ∙ a .0)))
+    (λ q. rw q (open-none (k + 1) ws (d .1)))
+
+open-last : (before : Bool) (k : ℕ) (ws : List (List ℕ)) → OpenLast (framesFrom before k ws)
+unfolding framesFrom
+open-last before k [] = tt
+open-last before k (w ∷ ws) = go (before && starts w) refl (open-last (quiet w) (k + 1) ws)
+  where
+    go : (b : Bool) → (before && starts w) ≡ b → OpenLast (framesFrom (quiet w) (k + 1) ws)
+        → OpenLast (cond b (record { word = k; characters = upToEnd (afterStart w ws) } ∷ []) [] ++ framesFrom (quiet w) (k + 1) ws)
+    go true e p =
+        let q = start-loud w (and-both before (starts w) e .1) in (
+          λ o.
+              let a = open-more (laneCharacter w 1) _ o in
+              let b = open-more (laneCharacter w 2) _ (a .1) in
+              let c = open-more (laneCharacter w 3) (charactersOf ws) (b .1) in
+              rw q (open-none (k + 1) ws (c .1)),
+          p,
+        )
+    go false e p = p
+
+pub open-frames : OpenFrames
+open-frames words = open-last false 0 words
 
 -- ---- at most every second word
 

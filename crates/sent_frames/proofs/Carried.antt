@@ -12,8 +12,8 @@ use Rattle.block.specs.declared.Kind.the-variants.{E}
 use Rattle.block.specs.Block.{Slot, Control, Calm, Data, Set, Start, Terminate, Field, Format, controlBit, codeFor, flagOf, laneOf, sentCode, carries, kindFor, carrierKind, carrierBy}
 use Rattle.block.proofs.Sending.{own}
 use Rattle.frames.specs.Frames.{Character, dataOctet, controlCharacter, byFlag, upToEnd, isGood}
+use Rattle.frames.specs.Apart.{isOpen}
 use Rattle.frames.proofs.Quiet.{and-both}
-use Rattle.sent_frames.specs.SentFrames.{isOpen}
 
 -- ---- good, or still open
 

@@ -20,8 +20,9 @@ use Rattle.transmit.specs.Send.{vectorsIn}
 use Rattle.demands.specs.Words.{inError, legalFrom}
 use Rattle.demands.proofs.Accepted.{ten-each}
 use Rattle.frames.specs.Frames.{Character, charactersOf, quiet, starts, isGood, afterStart, Frame, wordsIn, framesFrom}
+use Rattle.frames.specs.Apart.{isOpen}
 use Rattle.frames.proofs.Quiet.{and-both}
-use Rattle.sent_frames.specs.SentFrames.{isOpen, GoodOrOpen, LegalFrames}
+use Rattle.sent_frames.specs.SentFrames.{GoodOrOpen, LegalFrames}
 use Rattle.sent_frames.proofs.Carried.{fine, fine-none, charactersFrom, dataRun, terminated, every, data-fine, terminated-fine, carried-by}
 use Rattle.sent_frames.proofs.Control.{refuses, not-carried, word-start}
 

@@ -1,14 +1,15 @@
 -- The frames of lists that are sent.
 use Prim.Native.Nat.{ℕ}
 use mathlib.Core.Path.{_≡_}
-use mathlib.Core.Bool.{Bool, true, not, _&&_, _||_}
+use mathlib.Core.Bool.{true, _||_}
 use mathlib.Core.List.{List, [], _∷_}
 use Rattle.block.specs.Block.{editionOf}
 use Rattle.transmit.specs.Send.{sentLine, vectorList}
 use Rattle.receiving.specs.Receive.{receivedVectors}
 use Rattle.demands.specs.Words.{SendAccepts, legal}
 use Rattle.demands.specs.Demand2.{Returnable}
-use Rattle.frames.specs.Frames.{Character, endsFrame, isGood, Frame, wordList, framesOf}
+use Rattle.frames.specs.Frames.{isGood, Frame, wordList, framesOf}
+use Rattle.frames.specs.Apart.{isOpen}
 
 -- What is received has the frames of what was sent. For every list of vectors that sending accepts, from any start state that it allows, that is
 -- legal and whose first 64 vectors are control vectors: the vectors that a fresh receiver gives over the sent line have the frames of the list, each
@@ -18,12 +19,7 @@ FramesReturn =
     (edition : ℕ) (bytes : List ℕ) (start room : ℕ) → SendAccepts edition bytes start room → Returnable (editionOf edition) (vectorList bytes)
     → framesOf (wordList (receivedVectors (editionOf edition) (sentLine (editionOf edition) bytes start))) ≡ framesOf (wordList bytes)
 
--- A frame is still open: none of its characters ends it.
-abbrev pub isOpen : List Character → Bool
-isOpen [] = true
-isOpen (c ∷ cs) = not (endsFrame c) && isOpen cs
-
--- each is good, or still open, and then it is the last (`FramesApart`)
+-- each is good, or still open; one that is open is the last (`OpenFrames`)
 abbrev pub GoodOrOpen : List Frame → Type 0
 GoodOrOpen [] = Unit
 GoodOrOpen (f ∷ fs) = ((isGood (f .characters) || isOpen (f .characters)) ≡ true) × GoodOrOpen fs
