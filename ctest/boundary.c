@@ -851,7 +851,7 @@ static void version_and_texts(void)
     snprintf(version, sizeof version, "%d.%d.%d", HOLZMOTTE_VERSION_MAJOR, HOLZMOTTE_VERSION_MINOR, HOLZMOTTE_VERSION_PATCH);
     CHECK(strcmp(version, HOLZMOTTE_VERSION) == 0);
     for (int i = -1; i <= 14; i++) {
-        CHECK((strcmp(holzmotte_refusal_text(i), "unknown") == 0) == (i < 0 || i == 11 || i == 12 || i == 14));
+        CHECK((strcmp(holzmotte_refusal_text(i), "unknown") == 0) == (i < 0 || i == 14));
         for (int k = -1; k < i; k++)
             CHECK(strcmp(holzmotte_refusal_text(i), holzmotte_refusal_text(k)) != 0 || strcmp(holzmotte_refusal_text(i), "unknown") == 0);
     }

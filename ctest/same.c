@@ -207,11 +207,36 @@ static void frames(struct sum *sum, size_t count)
     add(sum, summary, HOLZMOTTE_FRAMES_SUMMARY_BYTES);
 }
 
+/* The index of a list with some error vectors, then counts and searches with it; at times it is another's, or a byte too long, or a control
+ * byte is high. */
+static void indexes(struct sum *sum, size_t count)
+{
+    static const uint8_t error[] = HOLZMOTTE_ERROR_VECTOR;
+    make_list(count);
+    for (size_t changes = below(1 + count / 4); changes > 0; changes--)
+        for (size_t i = 0, at = 10 * below(count); i < 10; i++)
+            vectors[at + i] = error[i];
+    if (below(16) == 0)
+        vectors[5 * below(2 * count)] += 16;
+    size_t bytes = HOLZMOTTE_INDEX_BYTES(10 * count) + (below(16) == 0);
+    add_number(sum, holzmotte_index(vectors, 10 * count, entries, bytes));
+    add(sum, entries, bytes);
+    if (below(4) == 0)
+        entries[below(bytes)] += (uint8_t)below(256);
+    for (int i = 0; i < 4; i++) {
+        uint64_t a = below(count + 2), b = below(4) ? a + below(count + 2 - a) : below(count + 2);
+        add_number(sum, holzmotte_count(vectors, 10 * count, entries, bytes, a, b, summary, HOLZMOTTE_COUNT_SUMMARY_BYTES - (below(16) == 0)));
+        add(sum, summary, HOLZMOTTE_COUNT_SUMMARY_BYTES);
+        add_number(sum, holzmotte_find_error(vectors, 10 * count, entries, bytes, below(2 + count / 4), summary, HOLZMOTTE_FIND_SUMMARY_BYTES));
+        add(sum, summary, HOLZMOTTE_FIND_SUMMARY_BYTES);
+    }
+}
+
 void run(void)
 {
     uint64_t none = 0xcbf29ce484222325;
     struct sum sent = {"send    ", none}, received = {"receive ", none}, in_bursts = {"bursts  ", none}, recorded = {"records ", none};
-    struct sum listed = {"frames  ", none};
+    struct sum listed = {"frames  ", none}, indexed = {"index   ", none};
     round_of(HOLZMOTTE_MAX_VECTOR_BYTES / 10, 3000, &sent, &received, &in_bursts);
     for (size_t round = 0; round < ROUNDS; round++)
         round_of(4 + 4 * below(LONGEST / 4), 40, &sent, &received, &in_bursts);
@@ -220,10 +245,14 @@ void run(void)
     frames(&listed, HOLZMOTTE_MAX_VECTOR_BYTES / 10);
     for (size_t round = 0; round < ROUNDS; round++)
         frames(&listed, 4 + 4 * below(LONGEST / 4));
+    indexes(&indexed, HOLZMOTTE_MAX_VECTOR_BYTES / 10);
+    for (size_t round = 0; round < ROUNDS; round++)
+        indexes(&indexed, 4 + 4 * below(LONGEST / 4));
     tell(&sent);
     tell(&received);
     tell(&in_bursts);
     tell(&recorded);
     tell(&listed);
+    tell(&indexed);
     end();
 }

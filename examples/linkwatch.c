@@ -1,10 +1,11 @@
-/* linkwatch [--energy-saving] [--frames] CAPTURE ...: tells a person what a 10GBASE-R link says, from captures of line records. A capture is
- * a file, or a pipe into which a probe writes: it is told as it comes, in memory that does not grow.
+/* linkwatch [--energy-saving] [--frames] [--errors] CAPTURE ...: tells a person what a 10GBASE-R link says, from captures of line records. A
+ * capture is a file, or a pipe into which a probe writes: it is told as it comes, in memory that does not grow.
  *
  * Each record's line bytes are a burst for the library. linkwatch prints one line for each run of vectors that say the same, as soon as the
  * run is over, and at the end how many blocks were bad and why, how many frames began, and how many are good and bad by Clause 46 (the
- * header, "Frames"), with --frames each of them. After several captures it prints the total. All that it tells of a link stands in the
- * vectors, summaries, counters and lists that the library answered. A block takes 6.4 ns on the line.
+ * header, "Frames"), with --frames each of them, with --errors how many errors there are in each 1,000 blocks that have one, by an index (the
+ * header, "The index"). After several captures it prints the total. All that it tells of a link stands in the vectors, summaries, counters
+ * and lists that the library answered. A block takes 6.4 ns on the line.
  *
  * A capture does not say whether Energy Efficient Ethernet was on. With --energy-saving captures are received in the new edition (the
  * header, "The editions of Clause 49"), and it tells how many vectors were low power idle. Without it they are received in the old one,
@@ -27,11 +28,12 @@
 #include <string.h>
 
 static const char USAGE[] =
-    "usage: linkwatch [--energy-saving] [--frames] CAPTURE ...\n"
+    "usage: linkwatch [--energy-saving] [--frames] [--errors] CAPTURE ...\n"
     "A capture is a file, or a pipe such as /dev/stdin, of records: body length and kind (two bytes each, least significant first), then\n"
     "the body. All are of kind 2, line bytes, at most 65,472 in a record. They are told as they come, in parts of at most 825,000 bytes.\n"
     "--energy-saving is for links that have Energy Efficient Ethernet (IEEE 802.3az) on: low power idle is then no error.\n"
-    "--frames lists the frames: the block of the Start, the octets after it, good or bad.\n";
+    "--frames lists the frames: the block of the Start, the octets after it, good or bad.\n"
+    "--errors tells where the errors are: of each 1,000 blocks with an error how many, frames begun, and the block of the first error.\n";
 
 /* What the library is given again with each burst, and its summary: the last one, and the one with which lock first came. */
 struct receiver {
@@ -46,8 +48,9 @@ static size_t place, heard;           /* of the record that is read; line bytes 
 static const char *whole;             /* what a summary speaks of */
 static int told;                      /* captures in the total */
 static uint64_t edition = HOLZMOTTE_EDITION_OLD;
-static int list_frames;
+static int list_frames, list_errors;
 static uint8_t heard_vectors[HOLZMOTTE_MAX_VECTOR_BYTES], frames[HOLZMOTTE_FRAMES_ROOM(HOLZMOTTE_MAX_VECTOR_BYTES)]; /* of a part */
+static uint8_t index_of_heard[HOLZMOTTE_INDEX_BYTES(HOLZMOTTE_MAX_VECTOR_BYTES)];
 
 static unsigned long word(enum holzmotte_receive_word i) { return (unsigned long)holzmotte_word(watched.summary, i); }
 
@@ -215,13 +218,18 @@ static void print_link(void)
     puts("");
 }
 
-/* The frames of all vectors, with idles behind the last up to whole fours. */
-static void print_frames(void)
+/* Puts idles behind the last of all vectors, up to whole fours: how many bytes they then are. */
+static size_t in_fours(void)
 {
-    uint8_t summary[HOLZMOTTE_FRAMES_SUMMARY_BYTES];
     size_t bytes = HOLZMOTTE_VECTOR_BYTES * run.to;
     for (; bytes % HOLZMOTTE_GROUP_VECTOR_BYTES != 0; bytes += HOLZMOTTE_VECTOR_BYTES)
         memcpy(heard_vectors + bytes, IDLES, HOLZMOTTE_VECTOR_BYTES);
+    return bytes;
+}
+
+static void print_frames(size_t bytes)
+{
+    uint8_t summary[HOLZMOTTE_FRAMES_SUMMARY_BYTES];
     holzmotte_frames(heard_vectors, bytes, frames, sizeof frames, summary, sizeof summary);
     unsigned long number = (unsigned long)holzmotte_word(summary, HOLZMOTTE_FRAMES_NUMBER), good = 0;
     for (unsigned long i = 0; i < number; i++)
@@ -231,6 +239,27 @@ static void print_frames(void)
         printf("%8lu %8lu octets  %s\n", (unsigned long)holzmotte_frame(frames, i, HOLZMOTTE_FRAME_WORD) / 2,
                (unsigned long)holzmotte_frame(frames, i, HOLZMOTTE_FRAME_OCTETS),
                holzmotte_frame(frames, i, HOLZMOTTE_FRAME_GOOD) ? "good" : "bad");
+}
+
+/* The errors of each 1,000 blocks. */
+static void print_errors(size_t bytes)
+{
+    uint8_t inside[HOLZMOTTE_COUNT_SUMMARY_BYTES], found[HOLZMOTTE_FIND_SUMMARY_BYTES];
+    size_t index_bytes = HOLZMOTTE_INDEX_BYTES(bytes);
+    uint64_t before = 0;
+    holzmotte_index(heard_vectors, bytes, index_of_heard, index_bytes);
+    for (unsigned long from = 0; from < run.to; from += 1000) {
+        unsigned long to = run.to - from < 1000 ? run.to : from + 1000;
+        holzmotte_count(heard_vectors, bytes, index_of_heard, index_bytes, from, to, inside, sizeof inside);
+        uint64_t errors = holzmotte_word(inside, HOLZMOTTE_COUNTED_ERRORS);
+        if (errors > 0) {
+            holzmotte_find_error(heard_vectors, bytes, index_of_heard, index_bytes, before + 1, found, sizeof found);
+            printf("blocks %lu to %lu: %lu errors, the first at block %lu; %lu frames begun\n", from, to - 1, (unsigned long)errors,
+                   (unsigned long)holzmotte_word(found, HOLZMOTTE_FOUND_VECTOR),
+                   (unsigned long)holzmotte_word(inside, HOLZMOTTE_COUNTED_STARTS));
+        }
+        before += errors;
+    }
 }
 
 static unsigned long count(enum holzmotte_counter_number i) { return holzmotte_counter(total, i); }
@@ -282,7 +311,10 @@ static void end_part(void)
     take_handed_out();
     end_run();
     print_link();
-    print_frames();
+    size_t bytes = in_fours();
+    print_frames(bytes);
+    if (list_errors)
+        print_errors(bytes);
 }
 
 static int burst(struct receiver *r, const uint8_t *bytes, size_t n, uint8_t *counters)
@@ -397,6 +429,8 @@ static int captures_of(int argc, char **argv)
             edition = HOLZMOTTE_EDITION_NEW;
         else if (strcmp(argv[i], "--frames") == 0)
             list_frames = 1;
+        else if (strcmp(argv[i], "--errors") == 0)
+            list_errors = 1;
         else
             argv[++captures] = argv[i];
     return captures;

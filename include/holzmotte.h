@@ -1,9 +1,9 @@
 /* Holzmotte: the physical coding sublayer of a 10GBASE-R link (IEEE 802.3 Clause 49), from XGMII vectors to line bits and back.
  *
- * Eight functions, proved to do what the project's definitions say for every input: to send, to receive, to begin, go on and close where
- * a line is received in bursts, to read and write a record of a capture file, and to list the frames of vectors. They allocate nothing,
- * keep nothing between calls and touch no memory but what is lent to them, their stack and constants of their own, so they may be called
- * from any thread.
+ * Eleven functions, proved to do what the project's definitions say for every input: to send, to receive, to begin, go on and close where
+ * a line is received in bursts, to read and write a record of a capture file, to list the frames of vectors, to build an index of them,
+ * and to count and to find errors with it. They allocate nothing, keep nothing between calls and touch no memory but what is lent to
+ * them, their stack and constants of their own, so they may be called from any thread.
  *
  * Compiling. This file is C11 and C++11. After `make install`: cc -std=c11 app.c -lholzmotte
  * Without it, in the project's folder after `make native`: cc -std=c11 -Iinclude app.c target/native/libholzmotte.a
@@ -13,7 +13,7 @@
  *   - The pointer is not NULL, even where the length is 0: pass the address of anything then.
  *   - All of it is readable memory, and writable where the pointer is not to const; the length is at most PTRDIFF_MAX.
  *   - A slice that is written (line and summary in sending; vectors, summary and counters in receiving; state in bursts; summary or room
- *     with records; list and summary with frames) overlaps no other slice of the call, nor of a call that runs at the same time.
+ *     with records; list and summary with frames; index or summary with an index) overlaps no other slice of the call, nor of a call that runs at the same time.
  * Nothing checks these four, and nothing else is asked: no pointer has to be aligned, and every other fault is refused by a number.
  *
  * Bytes. A word is five bytes: a control byte (bit i set when lane i carries a control character; bits 4 to 7 zero), then lanes 0
@@ -29,8 +29,8 @@
  * short for the frames, their number.
  *
  * What is written. A success writes exactly the bytes that stand at each function, from the start of the lent slice, and leaves the
- * rest of the slice as it was. A refusal leaves `line`, or `vectors`, `counters` and `state`, or `room`, or `list`, as they were and writes
- * the summary's bytes as zeros; where the summary slice is too short for them it stays as it was, whatever the refusal.
+ * rest of the slice as it was. A refusal leaves `line`, or `vectors`, `counters` and `state`, or `room`, `list` or `index`, as they were and
+ * writes the summary's bytes as zeros; where the summary slice is too short for them it stays as it was, whatever the refusal.
  */
 #ifndef HOLZMOTTE_H
 #define HOLZMOTTE_H
@@ -47,14 +47,15 @@ extern "C" {
  * compiled with the header of its library: nothing notices a call with too few parameters, such as every call that was compiled with a
  * header before 0.6.0. */
 #define HOLZMOTTE_VERSION_MAJOR 0
-#define HOLZMOTTE_VERSION_MINOR 9
+#define HOLZMOTTE_VERSION_MINOR 10
 #define HOLZMOTTE_VERSION_PATCH 0
-#define HOLZMOTTE_VERSION "0.9.0"
+#define HOLZMOTTE_VERSION "0.10.0"
 
 /* So much stack is enough for a call. This is tested, not proved. Measured on 64-bit Arm: to send takes up to 1.0 KB, to list frames 0.9,
- * however many there are, to receive 0.7, a burst 0.6, to close 0.5, to begin and to write a record 0.1, to read one 0.1 (1.0 in the first
- * call of the test). On x86-64: to send and to close 0.7 KB, to receive 0.9, a burst 0.8; records and frames were not measured there. The
- * project's two programs, which hold a whole record and what they gather, take up to 239 KB. */
+ * however many there are, to find an error 0.9, to receive 0.7, a burst 0.6, to close 0.5, to count 0.3, to build an index 0.3 and to read a
+ * record 0.1 (1.0 each in the first call of the test), to begin and to write a record 0.1. On x86-64: to send and to close 0.7 KB, to receive
+ * 0.9, a burst 0.8; the others were not measured there. The project's two programs, which hold a whole record and what they gather, take up
+ * to 239 KB. */
 #define HOLZMOTTE_STACK_BYTES 16384
 
 /* Sizes, in bytes. */
@@ -72,6 +73,8 @@ extern "C" {
 #define HOLZMOTTE_OLD_MAX_RECORD_BODY 4092 /* of phones not yet updated */
 #define HOLZMOTTE_FRAME_BYTES 12
 #define HOLZMOTTE_FRAMES_SUMMARY_BYTES 8
+#define HOLZMOTTE_COUNT_SUMMARY_BYTES 16
+#define HOLZMOTTE_FIND_SUMMARY_BYTES 16
 
 /* The room that sending wants for its line, and receiving for its vectors (also where slips leave fewer vectors than fit). For a burst the
  * third is enough whatever its state is, and for the closing call 10 bytes, which is HOLZMOTTE_BURST_ROOM(0). */
@@ -84,6 +87,9 @@ extern "C" {
 
 /* Room for the frames of any list of so many vector bytes. */
 #define HOLZMOTTE_FRAMES_ROOM(vector_bytes) ((size_t)(vector_bytes) / 10 * 12)
+
+/* The bytes of the index of so many vector bytes. */
+#define HOLZMOTTE_INDEX_BYTES(vector_bytes) (((size_t)(vector_bytes) / 640 + 1) * 8)
 
 /* A start state is below this: 58 bits. */
 #define HOLZMOTTE_START_STATES ((uint64_t)1 << 58)
@@ -105,6 +111,8 @@ enum holzmotte_refusal {
     HOLZMOTTE_RECORD_KIND = 8,  /* a kind that is not 1 or 2; in a program, not the one that it takes */
     HOLZMOTTE_CLOSED = 9,       /* a burst or a closing call after the closing one */
     HOLZMOTTE_BAD_STATE = 10,   /* a state that no line leads to: one of the limits at enum holzmotte_state_word is passed */
+    HOLZMOTTE_RANGE = 11,       /* the first vector of a range after its end, its end past the vectors, or an index of the wrong length */
+    HOLZMOTTE_NO_VECTOR = 12,   /* there are fewer error vectors, or number 0 was asked for */
     HOLZMOTTE_NO_EDITION = 13   /* an edition that is not 0 or 1 */
 };
 
@@ -123,6 +131,8 @@ static inline const char *holzmotte_refusal_text(int number)
     case HOLZMOTTE_RECORD_KIND: return "a record is of another kind than is read here";
     case HOLZMOTTE_CLOSED: return "the closing call has been made";
     case HOLZMOTTE_BAD_STATE: return "the state is damaged: no line leads to it";
+    case HOLZMOTTE_RANGE: return "there is no such range of vectors, or the index has another length than theirs";
+    case HOLZMOTTE_NO_VECTOR: return "there are not so many error vectors";
     case HOLZMOTTE_NO_EDITION: return "there is no such edition: 0 is the old one, 1 the new one";
     default: return "unknown";
     }
@@ -553,6 +563,84 @@ static inline uint32_t holzmotte_frame(const uint8_t *list, uint64_t i, enum hol
  *
  * Refusals, in this order: 1, 2, 5, 4 (summary too short, with place 0), 4 (list too short, with the number of frames as its place). */
 uint64_t holzmotte_frames(const uint8_t *vectors, size_t vectors_len, uint8_t *list, size_t list_len, uint8_t *summary, size_t summary_len);
+
+/* The index: counts and places in a list of vectors, without reading all of it again. It is kept beside the vectors, which are numbered from
+ * 0, and holds at each multiple of 64 from 0 to their number how many of two sorts stand before it:
+ *   - error vectors, exactly 0f fe fe fe fe 0f fe fe fe fe;
+ *   - vectors of kind S: they have the Start (fb) of a frame, in lane 0 of their first word with data in all other lanes, or in lane 0 of
+ *     their second word with data after it, behind an ordered set or four valid control characters, 06 among them.
+ * Over what one receiving call wrote, in either edition, the counts from 0 up to the number of vectors that it wrote are words 11 and 10 of its
+ * summary. This is proved. Vectors are indexed in fours: where those of a capture do not come so, idles go behind the last; they are of
+ * neither sort.
+ *
+ * What a count takes: for each end of the range one entry and at most 63 vectors. What a search takes: the entries are halved until one
+ * remains, of 1,563 at most 12 are read, and then at most 64 vectors are looked at. Besides, each call looks at all control bytes, for
+ * refusal 5.
+ *
+ * Which index. With the one that holzmotte_index built from the same vectors a count is the full count, and a search finds the n-th error
+ * vector of all, or is refused with 12 where there are fewer. Any other index of the right length gets an answer too, which is then not to be
+ * relied on: each count is from 0 to b - a, and what is found is an error vector of the list, with at most 12 entries read, or it is
+ * refused with 12. Nothing notices it. So build the index anew when the vectors change. This is proved.
+ *
+ * Here `show` gets each error vector of a range:
+ *
+ *     static uint64_t show_errors(const uint8_t *vectors, size_t vectors_len, const uint8_t *index, size_t index_len, uint64_t a, uint64_t b)
+ *     {
+ *         uint8_t before[HOLZMOTTE_COUNT_SUMMARY_BYTES], inside[HOLZMOTTE_COUNT_SUMMARY_BYTES], found[HOLZMOTTE_FIND_SUMMARY_BYTES];
+ *         uint64_t result = holzmotte_count(vectors, vectors_len, index, index_len, a, b, inside, sizeof inside);
+ *         if (result == HOLZMOTTE_DONE)
+ *             result = holzmotte_count(vectors, vectors_len, index, index_len, 0, a, before, sizeof before);
+ *         for (uint64_t i = 1; result == HOLZMOTTE_DONE && i <= holzmotte_word(inside, HOLZMOTTE_COUNTED_ERRORS); i++) {
+ *             uint64_t n = holzmotte_word(before, HOLZMOTTE_COUNTED_ERRORS) + i;
+ *             result = holzmotte_find_error(vectors, vectors_len, index, index_len, n, found, sizeof found);
+ *             if (result == HOLZMOTTE_DONE)
+ *                 show(holzmotte_word(found, HOLZMOTTE_FOUND_VECTOR));
+ *         }
+ *         return result;
+ *     }
+ *
+ * The words of an index are 32-bit numbers, least significant byte first, two to an entry: error vectors, vectors of kind S. A caller need
+ * not know them. */
+
+/* The words of the summaries. */
+enum holzmotte_count_word {
+    HOLZMOTTE_COUNTED_ERRORS = 0, /* how many error vectors */
+    HOLZMOTTE_COUNTED_STARTS = 1  /* how many vectors of kind S */
+};
+enum holzmotte_find_word {
+    HOLZMOTTE_FOUND_VECTOR = 0, /* the number of the vector */
+    HOLZMOTTE_FOUND_READ = 1    /* how many entries were read: one for each halving, and the one that remained */
+};
+
+/* Builds the index of vectors.
+ *
+ *   vectors  read: the list, a multiple of 40 bytes, at most HOLZMOTTE_MAX_VECTOR_BYTES
+ *   index    written: HOLZMOTTE_INDEX_BYTES(vectors_len) bytes, and it has no more
+ *
+ * Refusals, in this order: 1, 2, 5, 11 (an index longer or shorter than that). */
+uint64_t holzmotte_index(const uint8_t *vectors, size_t vectors_len, uint8_t *index, size_t index_len);
+
+/* Counts error vectors and vectors of kind S, from vector a up to but not vector b.
+ *
+ *   vectors  read: as for holzmotte_index
+ *   index    read: HOLZMOTTE_INDEX_BYTES(vectors_len) bytes
+ *   a, b     a at most b, b at most the number of vectors
+ *   summary  written: HOLZMOTTE_COUNT_SUMMARY_BYTES bytes
+ *
+ * Refusals, in this order: 1, 2, 5, 11, 4 (summary too short). */
+uint64_t holzmotte_count(const uint8_t *vectors, size_t vectors_len, const uint8_t *index, size_t index_len, uint64_t a, uint64_t b,
+                         uint8_t *summary, size_t summary_len);
+
+/* Finds the n-th error vector.
+ *
+ *   vectors  read: as for holzmotte_index
+ *   index    read: HOLZMOTTE_INDEX_BYTES(vectors_len) bytes
+ *   n        from 1
+ *   summary  written: HOLZMOTTE_FIND_SUMMARY_BYTES bytes
+ *
+ * Refusals, in this order: 1, 2, 5, 11, 12, 4 (summary too short). */
+uint64_t holzmotte_find_error(const uint8_t *vectors, size_t vectors_len, const uint8_t *index, size_t index_len, uint64_t n,
+                              uint8_t *summary, size_t summary_len);
 
 #ifdef __cplusplus
 }

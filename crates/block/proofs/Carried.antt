@@ -10,8 +10,8 @@ use borrow.Author.Tests.{ltb-true, ltb-false, eq-eqb, ne-eqb, eqb-true}
 use Rattle.block.specs.declared.Edition.{Edition}
 use Rattle.block.specs.declared.Edition.the-variants.{Old, New}
 use Rattle.block.specs.declared.Kind.the-variants.{C, E}
-use Rattle.block.specs.Block.{Slot, Control, Calm, Data, Set, Start, Terminate, Field, Format, noFormat, controlsIn, sets, without, codeIn, octetIn, codeOf, octetOf, controlBit, codeFor}
-use Rattle.block.specs.Block.{flagOf, laneOf, sentCode, carries, carrierBy, carrier, carrierKind, vectorKind, octetAt, flagAt, formatOf, vectorOf, valid, errorVector, localFaultVector, kindFor, kindOf, decoded, some}
+use Rattle.block.specs.Block.{Slot, Control, Calm, Data, Set, Start, Terminate, Field, Format, noFormat, controls, controlsIn, sets, without, codeIn, octetIn, codeOf, octetOf, controlBit, codeFor}
+use Rattle.block.specs.Block.{flagOf, laneOf, sentCode, carries, carrierBy, carrier, carrierKind, vectorKind, octetAt, flagAt, formatOf, vectorOf, valid, errorVector, localFaultVector, kindFor, kindOf, decoded, some, isError}
 use Rattle.block.specs.Rows.{formats, row, formatRow}
 use Rattle.refusals.proofs.Laws.{by-test}
 use Rattle.bits.proofs.Tests.{both-left, both-right, or-right, all, holds, every, every-at, is-true}
@@ -233,3 +233,64 @@ module _ (ed : Edition) where
       decided ed (λ k v. vectorKind ed v ≡ k) (formatOf h x) x
       (subst (λ (f : Format). valid ed f x ≡ true → vectorKind ed (vectorOf ed f x) ≡ kindFor f (vectorOf ed f x)) (row-format h x) (row-kind (formatRow h x) x))
       (λ e. kind-of-error ed)
+
+-- ---- from the older edition to the newer
+
+-- a table with one row more takes what it took
+newer-in : (ps : List (ℕ × ℕ)) (o : ℕ) → codeIn 256 ps o < 256 → codeIn 256 ((0x06, 0x06) ∷ ps) o < 256
+newer-in ps o h = go (eqb 0x06 o)
+  where
+    go : (b : Bool) → cond b 0x06 (codeIn 256 ps o) < 256
+    go true = lit< tt
+    go false = h
+
+-- a character that a slot takes in the older edition it takes in the newer
+newer-code : (s : Slot) (o : ℕ) → codeOf Old s o < 256 → codeOf New s o < 256
+newer-code Control o h = newer-in controls o h
+newer-code Calm o h = newer-in (without 0x1e controls) o h
+newer-code Data o h = h
+newer-code Set o h = h
+newer-code Start o h = h
+newer-code Terminate o h = h
+
+module _ (v : List ℕ) where
+  -- so the newer edition carries what the older does, by the same formats
+  newer-carries : (fs : List Field) → T (carries Old v fs) → T (carries New v fs)
+  newer-carries [] t = tt
+  newer-carries (f ∷ fs) t =
+      join (ltb (sentCode New v f) 256) (carries New v fs)
+      (lt→ltb (sentCode New v f) 256 (taken (f .slot) (eqb (flagOf v (f .char)) (controlBit (f .slot))) (ltb→lt (sentCode Old v f) 256 (both-left (ltb (sentCode Old v f) 256) (carries Old v fs) t))))
+      (newer-carries fs (both-right (ltb (sentCode Old v f) 256) (carries Old v fs) t))
+    where
+      taken : (s : Slot) (b : Bool) → cond b (codeOf Old s (laneOf v (f .char))) 256 < 256 → cond b (codeOf New s (laneOf v (f .char))) 256 < 256
+      taken s true h = newer-code s (laneOf v (f .char)) h
+      taken s false h = h
+
+  -- what a format carries in the newer edition, no rival of it carries in the older
+  none-later : (f : Format) (gs : List Format) → T (every (rivals New f) gs) → T (carries New v (f .fields)) → carrierKind (carrierBy Old gs v) ≡ E
+  none-later f [] t c = refl
+  none-later f (g ∷ gs) t c =
+      by-test (carries Old v (g .fields))
+      (λ e. absurd (not-both New v f g (both-left (rivals New f g) (every (rivals New f) gs) t) c (newer-carries (g .fields) (is-true e))))
+      (λ e. rw e (none-later f gs (both-right (rivals New f g) (every (rivals New f) gs) t) c))
+
+  newer-first : (fs : List Format) → T (apart New fs) → isError (carrierKind (carrierBy Old fs v)) ≡ false → carrierKind (carrierBy New fs v) ≡ carrierKind (carrierBy Old fs v)
+  newer-first [] t n = refl
+  newer-first (f ∷ fs) t n =
+      by-test (carries Old v (f .fields))
+      (λ e. rw (e, is-yes (carries New v (f .fields)) (newer-carries (f .fields) (is-true e))))
+      (λ e.
+      by-test (carries New v (f .fields))
+      (λ d.
+      let z : carrierKind (carrierBy Old fs v) ≡ E = none-later f fs (both-left (every (rivals New f) fs) (apart New fs) t) (is-true d) in
+      absurd (false≢true (sym (rw e at n) ∙ ap isError z)))
+      (λ d. rw (e, d) (newer-first fs (both-right (every (rivals New f) fs) (apart New fs) t) (rw e at n))))
+    where
+      is-yes : (b : Bool) → T b → b ≡ true
+      is-yes true t = refl
+      is-yes false t = absurd t
+
+  -- a vector that some block of the older edition carries has the same kind in both
+  pub kind-newer : isError (vectorKind Old v) ≡ false → vectorKind New v ≡ vectorKind Old v
+  unfolding vectorKind carrier
+  kind-newer n = newer-first formats (all-apart New) n

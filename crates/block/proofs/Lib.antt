@@ -8,3 +8,4 @@ pub mod Carried
 pub mod Types
 pub mod Near
 pub mod Demand1
+pub mod Vectors

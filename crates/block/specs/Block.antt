@@ -6,7 +6,7 @@ use mathlib.Core.List.{List, [], _∷_, _++_}
 use mathlib.Core.Bool.{Bool, true, false, cond, not, _&&_, _||_}
 use Prim.Native.Nat.{ℕ, zero, suc, _+_, _-_, _*_, _/_, _%_, _^_}
 use lib.Dec.{eqb, ltb}
-use lib.ListN.{length, getD}
+use lib.ListN.{length, getD, take, drop}
 use Rattle.refusals.specs.First.{Check, check, first, byVerdict}
 use Rattle.control_bytes.specs.Control.{controlCheck}
 use Rattle.block.specs.declared.Edition.{Edition}
@@ -24,6 +24,14 @@ word control lanes = control ∷ lanes % 2 ^ 8 ∷ lanes / 2 ^ 8 % 2 ^ 8 ∷ lan
 
 abbrev pub twoWords : ℕ → ℕ → ℕ → ℕ → List ℕ
 twoWords c0 d0 c1 d1 = word c0 d0 ++ word c1 d1
+
+-- "A vector is two words, ten bytes": the first k vectors of a list of bytes, and all of them
+unfoldable pub vectorsIn : ℕ → List ℕ → List (List ℕ)
+vectorsIn zero bytes = []
+vectorsIn (suc k) bytes = take 10 bytes ∷ vectorsIn k (drop 10 bytes)
+
+abbrev pub vectorList : List ℕ → List (List ℕ)
+vectorList bytes = vectorsIn (length bytes / 10) bytes
 
 -- ---- Editions (document 02, 9/13)
 

@@ -14,8 +14,9 @@ use Rattle.block.specs.declared.Edition.the-variants.{Old, New}
 use Rattle.diagrams.specs.Diagram.{stateNumber}
 use Rattle.diagrams.specs.declared.State as Diagram
 use Rattle.diagrams.specs.declared.State.the-variants.{Init}
+use Rattle.bits.specs.Lists.{howMany}
 use Rattle.receiving.specs.Machine.{Tested, Feed, Run, run, at, linkFresh, linkOf}
-use Rattle.receiving.specs.Receive.{Judged, judge, answer, judgedAlone, answers, howMany, countsOf, handedOf, runOf, judgedOf, vectorsOf, receivedVectors}
+use Rattle.receiving.specs.Receive.{Judged, judge, answer, judgedAlone, answers, countsOf, handedOf, runOf, judgedOf, vectorsOf, receivedVectors}
 use Rattle.receiving.specs.Parts.{Settled, settle, bytesOf, noCounts, plus, noneHanded, plusHanded}
 use Rattle.receiving.specs.Answer.{summaryOf}
 use Rattle.receiving.specs.declared.Link.{Link}

@@ -3,7 +3,8 @@ use Prim.Native.Nat.{ℕ}
 use mathlib.Core.Path.{_≡_, refl, sym, ap, _∙_}
 use mathlib.Core.List.{List, [], _∷_}
 use native.Mathlib.Nat.{add-assoc, add-zero}
-use Rattle.receiving.specs.Receive.{howMany, countsOf}
+use Rattle.bits.specs.Lists.{howMany}
+use Rattle.receiving.specs.Receive.{countsOf}
 use Rattle.receiving.specs.Parts.{noCounts, plus, plusHanded}
 use Rattle.receiving.specs.declared.Counts.{Counts}
 use Rattle.receiving.specs.declared.Handed.{Handed}

@@ -2,13 +2,13 @@
 use Prim.Native.Nat.{ℕ, _+_}
 use mathlib.Core.Path.{_≡_, refl, sym, ap, subst, _∙_}
 use mathlib.Core.Bool.{Bool, true, false, cond, not}
-use mathlib.Core.List.{List}
+use mathlib.Core.List.{List, [], _∷_}
 use lib.Dec.{eqb, leb}
 use lib.ListN.{length}
 use borrow.Author.Tests.{eq-eqb, ne-eqb}
 use Rattle.refusals.specs.First.{checkAt, Verdict, accepted, first, byVerdict}
 use Rattle.refusals.specs.First as First
-use Rattle.refusals.proofs.Laws.{one-more, by-test}
+use Rattle.refusals.proofs.Laws.{first-append, by-test}
 use Rattle.records.specs.Record.{bodyLimit, twoAt, readChecks, readAt, bodyOf}
 use Rattle.records.specs.Record as Record
 use Rattle.records.proofs.Laws.{body-is}
@@ -38,11 +38,11 @@ module _ (kind : ℕ) (file : List ℕ) (at : ℕ) where
 
   -- so this is what the definition says
   told : ofKind (readAt bodyLimit file at) ≡ bodyOfKind kind file at
-  unfolding readAt bodyOfKind recordChecks
+  unfolding readAt bodyOfKind recordChecks first
   told =
       by-tests (leb (length file) at) (first (readChecks bodyLimit file at)) (body-is bodyLimit file at _ _ _ _)
       ∙ ap (λ (v : Verdict). cond (leb (length file) at) end (byVerdict v (body (bodyAt file at)) refused))
-      (sym (one-more (readChecks bodyLimit file at) (checkAt 8 at (not (eqb (twoAt file (at + 2)) kind)))))
+      (sym (first-append (readChecks bodyLimit file at) (checkAt 8 at (not (eqb (twoAt file (at + 2)) kind)) ∷ [])))
 
   -- no bytes left
   pub no-more : readAt bodyLimit file at ≡ Record.end → end ≡ bodyOfKind kind file at

@@ -1,5 +1,5 @@
 -- The control bytes of a list of words, document 01: "A word is five bytes: a control byte .., then lanes 0 to 3", and its refusal 5.
-use Prim.Native.Nat.{ℕ, zero, suc, _+_, _/_}
+use Prim.Native.Nat.{ℕ, zero, suc, _+_, _*_, _/_, _≤_}
 use mathlib.Core.Bool.{cond}
 use mathlib.Core.List.{List}
 use lib.Dec.{ltb}
@@ -18,3 +18,7 @@ highControl bytes = highFrom (length bytes / 5) 0 bytes
 -- "5: a control byte above 15; byte offset of the first"
 abbrev pub controlCheck : List ℕ → Check
 controlCheck bytes = checkAt 5 (highControl bytes) (ltb (highControl bytes) (length bytes))
+
+-- no control byte is above 15
+abbrev pub Low : List ℕ → Type 0
+Low bytes = (i : ℕ) → getD bytes (5 * i) 0 ≤ 15

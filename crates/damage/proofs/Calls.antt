@@ -1,72 +1,35 @@
 -- Demand 3 of the functions: what follows from the promises of `send` and `receive`. Assumes nothing.
-use mathlib.Core.Path.{_≡_, refl, sym, ap, ap₂, _∙_, subst}
-use mathlib.Core.List.{List, [], _∷_, _++_, append-assoc, flatten}
+use mathlib.Core.Path.{_≡_, sym, ap, _∙_, subst}
+use mathlib.Core.List.{List, [], _++_}
 use Prim.Native.Nat.{ℕ, _*_, _/_, _≤_, _<_}
 use native.Mathlib.Omega.{arith}
 use lib.Dec.{T}
-use lib.ListN.{length, getD, take, drop}
-use lib.Seq.{take-at, drop-at}
-use Rattle.transmit.proofs.Laws.{length-vectors}
+use lib.ListN.{length, getD, drop}
 use Rattle.bits.specs.Bits.{lineBit}
 use Rattle.bits.proofs.Laws.{length-cut}
 use Rattle.register.specs.Register.{flip}
-use Rattle.line.specs.declared.Block.{Block}
-use Rattle.block.specs.Block.{editionOf}
+use Rattle.block.specs.Block.{editionOf, vectorsIn}
 use Rattle.bits.proofs.Tests.{all}
-use Rattle.block.proofs.Reading.{decoded-length}
 use Rattle.block.proofs.Near.{apart}
-use Rattle.diagrams.specs.declared.State.{State}
-use Rattle.diagrams.specs.declared.State.the-variants.{Init, Control, Data, Terminate, Error, LowPower}
 use Rattle.refusals.specs.First.{Verdict, first, accepted, byVerdict}
-use Rattle.transmit.specs.Send.{vectorsIn, errorBlock, blocksFor, sentLine}
+use Rattle.block.proofs.Vectors.{length-vectors, vectors-in}
+use Rattle.receiving.proofs.Tens.{vectors-tens}
+use Rattle.transmit.specs.Send.{errorBlock, blocksFor, sentLine}
 use Rattle.sending.specs.Answer.{Sends}
 use Rattle.sending.specs.declared.Sending.{Sending}
 use Rattle.sending.specs.declared.Sent.the-variants as Sent
-use Rattle.receiving.specs.Machine.{linkFresh, linkOf, testedOf}
-use Rattle.receiving.specs.Receive.{answerIn, judge, answers, vectorsOf, receivedVectors}
+use Rattle.receiving.specs.Receive.{vectorsOf, receivedVectors}
 use Rattle.receiving.specs.Answer as Receiving
 use Rattle.receiving.specs.Answer.{Receives}
-use Rattle.receiving.specs.declared.Link.{Link}
 use Rattle.receiving.specs.declared.Received.{Received}
 use Rattle.demands.specs.Words.{SendAccepts, Unbroken}
-use Rattle.demands.proofs.Runs.{testedAll}
 use Rattle.demands.proofs.Accepted.{known, not-long}
 use Rattle.demands.proofs.Calls.{done-accepts, length-sent, line-stands, received-too}
 use Rattle.damage.specs.Damage.{damaged, Flips}
 use Rattle.damage.specs.Demand3.{mostFlips, Answered, Survived, lineIn, Demand3OfCalls}
-use Rattle.damage.proofs.Demand3.{tested, vectors-tested, outlived, more-apart}
+use Rattle.damage.proofs.Demand3.{tested, outlived, more-apart}
 
 -- ---- what `receive` leaves
-
--- the vectors that a receiver answers have ten bytes each, so they can be told apart in its bytes
-abbrev Tens : List (List ℕ) → Type 0
-Tens [] = Unit
-Tens (v ∷ vs) = (length v ≡ 10) × Tens vs
-
--- the two fixed vectors have ten bytes too
-ten-in : (s : State) (v : List ℕ) → length v ≡ 10 → length (answerIn s v) ≡ 10
-unfolding answerIn
-ten-in Init v e = refl
-ten-in Control v e = e
-ten-in Data v e = e
-ten-in Terminate v e = e
-ten-in Error v e = refl
-ten-in LowPower v e = e
-
--- all vectors that are answered
-answers-ten : (s : State) (l : Link) (bs : List Block) → Tens (answers s (testedAll l bs))
-unfolding answers judge testedAll testedOf
-answers-ten s l [] = tt
-answers-ten s l (b ∷ bs) = (ten-in _ _ (decoded-length _ (b .header) _), answers-ten _ (linkOf l (b .header) (b .payload)) bs)
-
--- vectors of ten bytes are those of their bytes
-vectors-in : (vs : List (List ℕ)) (rest : List ℕ) → Tens vs → vectorsIn (length vs) (flatten vs ++ rest) ≡ vs
-unfolding vectorsIn flatten
-vectors-in [] rest w = refl
-vectors-in (v ∷ vs) rest w =
-    let e : (v ++ flatten vs) ++ rest ≡ v ++ (flatten vs ++ rest) = append-assoc v (flatten vs) rest in
-    ap₂ _∷_ (ap (take 10) e ∙ take-at v (flatten vs ++ rest) 10 (w .0))
-    (ap (λ (bytes : List ℕ). vectorsIn (length vs) bytes) (ap (drop 10) e ∙ drop-at v (flatten vs ++ rest) 10 (w .0)) ∙ vectors-in vs rest (w .1))
 
 module _ (edition : ℕ) (line out : List ℕ) (r : Received) (out′ : List ℕ) (receives : Receives edition line out r out′)
     (ok : first (Receiving.receiveChecks edition (length line) (length out)) ≡ accepted) where
@@ -76,13 +39,13 @@ module _ (edition : ℕ) (line out : List ℕ) (r : Received) (out′ : List ℕ
   answer-is = receives .0 ∙ ap (λ (v : Verdict). byVerdict v (Receiving.received (Receiving.summaryOf (editionOf edition) line)) Receiving.refused) ok
 
   -- its vectors stand at the start of the room
-  vectors-stand : Tens (vectorsOf (editionOf edition) line) → vectorsIn (length (vectorsOf (editionOf edition) line)) out′ ≡ vectorsOf (editionOf edition) line
+  vectors-stand : vectorsIn (length (vectorsOf (editionOf edition) line)) out′ ≡ vectorsOf (editionOf edition) line
   unfolding Receiving.receiveRoom receivedVectors
-  vectors-stand tens =
+  vectors-stand =
       ap (vectorsIn (length (vectorsOf (editionOf edition) line)))
       (receives .1
       ∙ ap (λ (v : Verdict). byVerdict v (receivedVectors (editionOf edition) line ++ drop (length (receivedVectors (editionOf edition) line)) out) (λ number place. out)) ok)
-      ∙ vectors-in (vectorsOf (editionOf edition) line) (drop (length (receivedVectors (editionOf edition) line)) out) tens
+      ∙ vectors-in (vectorsOf (editionOf edition) line) (drop (length (receivedVectors (editionOf edition) line)) out) (vectors-tens (editionOf edition) line)
 
 -- ---- the demand
 
@@ -138,7 +101,6 @@ module _ (edition most : ℕ) (far : T (all (apart (editionOf edition) most))) (
     vectors-called =
         ap (λ (n : ℕ). vectorsIn n out′) (sym (outlived edition most far small bytes start (length room) ok f flips-line .one-each long))
         ∙ vectors-stand edition line out r out′ receives-line too
-        (subst Tens (sym (vectors-tested edition most far small bytes start (length room) ok f flips-line long)) (answers-ten Init (linkFresh (editionOf edition)) _))
 
   -- both, as the demand has them
   called : (Receiving.answerOf r ≡ Receiving.received (Receiving.summaryOf (editionOf edition) (damaged (lineIn room′ bytes) f)))

@@ -8,7 +8,8 @@ use native.Mathlib.Omega.{arith}
 use lib.Dec.{T}
 use lib.ListN.{length, getD}
 use borrow.Author.Tests.{le-leb}
-use Rattle.transmit.proofs.Laws.{length-vectors, length-blocks}
+use Rattle.block.proofs.Vectors.{length-vectors}
+use Rattle.transmit.proofs.Laws.{length-blocks}
 use Rattle.bits.specs.Bits.{bit, total, streamBit, cut}
 use Rattle.bits.proofs.Laws.{bit-lt, length-cut, odd-exactly}
 use Rattle.scrambler.specs.Scrambler.{mirror}
@@ -17,7 +18,7 @@ use Rattle.line.specs.declared.Block.{Block}
 use Rattle.line.specs.BlockNumber.{blockNumber}
 use Rattle.block.specs.declared.Edition.{Edition}
 use Rattle.block.specs.declared.Edition.the-variants.{Old, New}
-use Rattle.block.specs.Block.{editionOf, kindOf, decoded, laneOf}
+use Rattle.block.specs.Block.{editionOf, kindOf, decoded, laneOf, vectorList}
 use Rattle.block.specs.declared.Kind.{Kind}
 use Rattle.block.specs.declared.Kind.the-variants.{E}
 use Rattle.block.specs.declared.Reason.the-variants.{BlockType}
@@ -25,7 +26,7 @@ use Rattle.block.specs.declared.Class.the-variants.{Bad}
 use Rattle.bits.proofs.Tests.{all}
 use Rattle.block.proofs.Near.{apart, four-apart, two-apart}
 use Rattle.diagrams.specs.declared.State.the-variants.{Init}
-use Rattle.transmit.specs.Send.{errorBlock, sentBlocks, blocksFor, lineWords, sentLine, vectorList}
+use Rattle.transmit.specs.Send.{errorBlock, sentBlocks, blocksFor, lineWords, sentLine}
 use Rattle.receiving.specs.Machine.{Tested, linkFresh}
 use Rattle.receiving.specs.Receive.{answers, vectorsOf}
 use Rattle.receiving.specs.Answer.{summaryOf}

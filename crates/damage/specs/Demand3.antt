@@ -12,8 +12,8 @@ use Rattle.bits.specs.Bits.{bit}
 use Rattle.line.specs.declared.Block.{Block}
 use Rattle.block.specs.declared.Edition.{Edition}
 use Rattle.block.specs.declared.Edition.the-variants.{Old, New}
-use Rattle.block.specs.Block.{editionOf, Format, formatOf, decoded, errorVector, flagOf, laneOf, placeAt}
-use Rattle.transmit.specs.Send.{vectorsIn, errorBlock, blocksFor, sentLine}
+use Rattle.block.specs.Block.{editionOf, Format, formatOf, decoded, errorVector, flagOf, laneOf, placeAt, vectorsIn}
+use Rattle.transmit.specs.Send.{errorBlock, blocksFor, sentLine}
 use Rattle.sending.specs.Answer.{Sends}
 use Rattle.sending.specs.declared.Sending.{Sending}
 use Rattle.sending.specs.declared.Sent.the-variants as Sent

@@ -1,18 +1,18 @@
 -- What it means that sending accepts vector bytes: whole groups, a start state of 58 bits, and no control byte above 15. Assumes nothing.
-use mathlib.Core.Path.{_≡_, refl, ap, ap₂, _∙_}
+use mathlib.Core.Path.{_≡_, refl, ap, _∙_}
 use mathlib.Core.Bool.{false, not}
 use mathlib.Core.List.{List, [], _∷_, _++_, flatten}
 use Prim.Native.Nat.{ℕ, zero, suc, _+_, _-_, _*_, _/_, _%_, _^_, _≤_, _<_}
 use native.Mathlib.Omega.{arith}
 use lib.Dec.{ltb, leb, eqb}
 use lib.ListN.{length, getD, take, drop, length-drop, take-append-drop}
-use lib.Seq.{length-take-le, getD-take, getD-drop, drop-drop}
+use lib.Seq.{length-take-le, getD-take, getD-drop}
 use borrow.Author.Tests.{ltb-false, eqb-true, not-false}
 use Rattle.refusals.proofs.Laws.{passed}
 use Rattle.control_bytes.specs.Control.{highControl}
 use Rattle.control_bytes.proofs.High.{low-word}
-use Rattle.transmit.specs.Send.{vectorsIn, vectorList}
 use Rattle.sending.specs.Answer.{sendChecks}
+use Rattle.block.specs.Block.{vectorsIn, vectorList}
 use Rattle.demands.specs.Words.{SendAccepts}
 use Rattle.demands.proofs.Sent.{Vectors}
 
@@ -49,17 +49,6 @@ module _ (edition : ℕ) (bytes : List ℕ) (start room : ℕ) (ok : SendAccepts
   none-high = ltb-false (highControl bytes) (length bytes) (checked .5)
 
 -- ---- the vectors
-
--- the vectors after the first n are those of the bytes after the first 10 n
-pub drop-vectors : (n k : ℕ) (bytes : List ℕ) → n ≤ k → drop n (vectorsIn k bytes) ≡ vectorsIn (k - n) (drop (10 * n) bytes)
-unfolding vectorsIn
-drop-vectors zero k bytes h = let e : k ≡ k - 0 = omega arith in ap (λ (m : ℕ). vectorsIn m bytes) e
-drop-vectors (suc n) zero bytes h = absurd (omega arith)
-drop-vectors (suc n) (suc k) bytes h =
-    let e : k - n ≡ suc k - suc n = omega arith in
-    let f : 10 + 10 * n ≡ 10 * suc n = omega arith in
-    drop-vectors n k (drop 10 bytes) (omega arith)
-    ∙ ap₂ vectorsIn e (drop-drop (10 * n) 10 bytes ∙ ap (λ (m : ℕ). drop m bytes) f)
 
 -- the vectors one after another are the bytes
 pub flat-vectors : (k : ℕ) (bytes : List ℕ) → length bytes ≡ 10 * k → flatten (vectorsIn k bytes) ≡ bytes

@@ -6,13 +6,13 @@ use native.Mathlib.Omega.{arith}
 use lib.ListN.{length, take, drop, length-append, length-drop}
 use lib.Seq.{take-at}
 use borrow.Author.Tests.{le-ltb}
-use Rattle.transmit.proofs.Laws.{length-vectors}
 use Rattle.bits.specs.Bits.{streamBit}
 use Rattle.bits.proofs.Laws.{length-cut}
 use Rattle.scrambler.specs.Scrambler.{mirror}
 use Rattle.refusals.specs.First.{Verdict, accepted, refused, first, byVerdict}
-use Rattle.block.specs.Block.{editionOf}
-use Rattle.transmit.specs.Send.{sentLine, lineWords, blocksFor, vectorList}
+use Rattle.block.specs.Block.{editionOf, vectorList}
+use Rattle.block.proofs.Vectors.{length-vectors}
+use Rattle.transmit.specs.Send.{sentLine, lineWords, blocksFor}
 use Rattle.sending.specs.Answer as Sending
 use Rattle.sending.specs.Answer.{Sends}
 use Rattle.sending.specs.declared.Sending.{Sending}

@@ -6,20 +6,21 @@ use Prim.Native.Nat.{ℕ, zero, suc, _-_, _*_, _/_, _^_, _<_}
 use native.Mathlib.Omega.{arith}
 use lib.ListN.{length, take, drop, replicate, length-drop, take-append-drop}
 use lib.Seq.{length-take-le}
-use Rattle.transmit.proofs.Laws.{length-vectors, length-blocks}
+use Rattle.block.proofs.Vectors.{length-vectors, drop-vectors}
+use Rattle.transmit.proofs.Laws.{length-blocks}
 use Rattle.bits.specs.Bits.{streamBit, cut}
 use Rattle.scrambler.specs.Scrambler.{mirror, scrambled, descrambled}
 use Rattle.scrambler.proofs.Laws.{mirror-lt}
 use Rattle.line.specs.declared.Block.{Block}
 use Rattle.line.specs.BlockNumber.{blockNumber}
 use Rattle.block.specs.declared.Edition.{Edition}
-use Rattle.block.specs.Block.{editionOf, isC, vectorKind, localFaultVector}
+use Rattle.block.specs.Block.{editionOf, isC, vectorKind, localFaultVector, vectorList}
 use Rattle.block.specs.declared.Kind.{Kind}
 use Rattle.block.specs.declared.Kind.the-variants.{D, C, S, T, LI, E}
 use Rattle.diagrams.specs.Diagram.{transmitOf, diagramOf, afterIdle}
 use Rattle.diagrams.specs.declared.State.{State}
 use Rattle.diagrams.specs.declared.State.the-variants.{Init, Control}
-use Rattle.transmit.specs.Send.{blockIn, sentBlocks, blocksFor, sentLine, vectorList}
+use Rattle.transmit.specs.Send.{blockIn, sentBlocks, blocksFor, sentLine}
 use Rattle.receiving.specs.Machine.{Tested, linkFresh}
 use Rattle.receiving.specs.Receive.{answers, receivedVectors, vectorsOf}
 use Rattle.receiving.specs.Answer.{summaryOf}
@@ -33,7 +34,7 @@ use Rattle.demands.proofs.Fresh.{fresh-vectors, fresh-summary}
 use Rattle.demands.proofs.Descrambling.{ReadAs, reads, descrambledBlocks, lineBlocks, line-words, length-line, line-valids, line-fits, late-start}
 use Rattle.demands.proofs.Answers.{Carries, not-locked, unchanged, legal-tail, and-left, and-right}
 use Rattle.demands.proofs.Sent.{Vectors, sent-fit, sent-valid, sent-first, carried}
-use Rattle.demands.proofs.Accepted.{four-each, ten-each, vectors-well, drop-vectors, flat-vectors}
+use Rattle.demands.proofs.Accepted.{four-each, ten-each, vectors-well, flat-vectors}
 
 -- ---- what is left of a list after its first vectors
 

@@ -1,8 +1,8 @@
 -- Demand 2 of a line that arrives in bursts. Assumes nothing.
 use mathlib.Core.Path.{sym, _∙_, subst}
 use lib.ListN.{length}
-use Rattle.transmit.specs.Send.{vectorList}
 use Rattle.bursts.proofs.Calls.{as-one}
+use Rattle.block.specs.Block.{vectorList}
 use Rattle.demands.specs.Words.{Unbroken}
 use Rattle.demands.specs.InBursts.{Demand2InBursts}
 use Rattle.demands.proofs.Demand2.{demand-2}

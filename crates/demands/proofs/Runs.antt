@@ -10,7 +10,7 @@ use Rattle.line.specs.declared.Block.{Block}
 use Rattle.line.specs.BlockNumber.{blockNumber}
 use Rattle.lock.specs.Lock.{slipsOf, lockOf}
 use Rattle.lock.specs.declared.Lock.{Lock}
-use Rattle.receiving.specs.Receive.{howMany}
+use Rattle.bits.specs.Lists.{howMany}
 use Rattle.receiving.specs.Machine.{Tested, run, at, validOf, linkOf, testedOf}
 use Rattle.receiving.specs.declared.Link.{Link}
 use Rattle.receiving.proofs.Runs.{runBehind, run-fill}

@@ -5,10 +5,9 @@ use Prim.Native.Nat.{ℕ}
 use lib.Dec.{lit≤}
 use lib.ListN.{replicate}
 use Rattle.refusals.specs.First.{first}
-use Rattle.block.specs.Block.{editionOf, carrier, kindFor, vectorKind}
+use Rattle.block.specs.Block.{editionOf, carrier, kindFor, vectorKind, vectorsIn, vectorList}
 use Rattle.control_bytes.specs.Control.{highFrom, highControl}
 use Rattle.diagrams.specs.Diagram.{diagramOf, afterIdle, afterData, afterError}
-use Rattle.transmit.specs.Send.{vectorsIn, vectorList}
 use Rattle.sending.specs.Answer.{sendChecks}
 use Rattle.demands.specs.Words.{SendAccepts, legalFrom, controlVector, controlVectors}
 use Rattle.demands.specs.Demand2.{Returnable, Returned}

@@ -8,8 +8,8 @@ use mathlib.Core.Bool.{true}
 use mathlib.Core.List.{List, _++_, flatten}
 use lib.ListN.{length, take, drop, replicate}
 use Rattle.block.specs.declared.Edition.{Edition}
-use Rattle.block.specs.Block.{editionOf, localFaultVector}
-use Rattle.transmit.specs.Send.{sentLine, vectorList}
+use Rattle.block.specs.Block.{editionOf, localFaultVector, vectorList}
+use Rattle.transmit.specs.Send.{sentLine}
 use Rattle.sending.specs.Answer.{Sends}
 use Rattle.sending.specs.declared.Sending.{Sending}
 use Rattle.sending.specs.declared.Sent.the-variants as Sent

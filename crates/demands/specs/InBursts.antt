@@ -3,8 +3,8 @@ use Prim.Native.Nat.{ℕ}
 use mathlib.Core.Path.{_≡_}
 use mathlib.Core.List.{List, _++_, flatten}
 use lib.ListN.{length, drop}
-use Rattle.block.specs.Block.{editionOf}
-use Rattle.transmit.specs.Send.{sentLine, vectorList}
+use Rattle.block.specs.Block.{editionOf, vectorList}
+use Rattle.transmit.specs.Send.{sentLine}
 use Rattle.receiving.specs.declared.Summary.{Summary}
 use Rattle.bursts.specs.Joined.{InBursts}
 use Rattle.demands.specs.Words.{SendAccepts, Unbroken}

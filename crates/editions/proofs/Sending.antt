@@ -9,12 +9,12 @@ use Rattle.refusals.specs.First.{first as firstOf, byVerdict}
 use Rattle.scrambler.specs.Scrambler.{mirror}
 use Rattle.line.specs.declared.Block.{Block}
 use Rattle.block.specs.declared.Edition.the-variants.{Old}
-use Rattle.block.specs.Block.{editionOf, vectorKind, carrierKind}
+use Rattle.block.specs.Block.{editionOf, vectorKind, carrierKind, vectorList}
 use Rattle.diagrams.specs.Diagram.{transmitOf, stateNumber}
 use Rattle.diagrams.specs.declared.State.{State}
 use Rattle.diagrams.specs.declared.State.the-variants.{Init, Control, Data, Terminate, Error, LowPower}
 use Rattle.diagrams.proofs.Laws.{never-low}
-use Rattle.transmit.specs.Send.{vectorList, ownBlock, blockIn, replacedIn, stateAfter, replaced, sentBlocks, lineWords, historyOver, blocksFor, sentLine}
+use Rattle.transmit.specs.Send.{ownBlock, blockIn, replacedIn, stateAfter, replaced, sentBlocks, lineWords, historyOver, blocksFor, sentLine}
 use Rattle.sending.specs.Answer.{SendAnswer, sent, refused, sendChecks, sentFor, sendAnswer, sendRoom}
 use Rattle.editions.specs.Before.{kindBefore, stepBefore, blockBefore, stateBefore, replacedBefore, blocksBefore, sentBefore, lineBefore, sendChecksBefore, sendAnswerBefore, sendRoomBefore}
 use Rattle.editions.specs.Unchanged.{SendingUnchanged}

@@ -15,13 +15,13 @@ use Rattle.block.specs.declared.Kind.{Kind}
 use Rattle.block.specs.declared.Reason.the-variants.{Header, BlockType, ControlCode, SetCode}
 use Rattle.block.specs.declared.Class.{Class}
 use Rattle.block.specs.declared.Class.the-variants.{Bad}
-use Rattle.block.specs.Block.{Format, dataBlock, controlBlocks, formatOf, decoded, some, says, good, isD, isC, isS, isT, kindIn, carries, payloadFor, Carrier, block, none, carrierKind}
+use Rattle.block.specs.Block.{Format, dataBlock, controlBlocks, formatOf, decoded, some, says, good, isD, isC, isS, isT, kindIn, carries, payloadFor, Carrier, block, none, carrierKind, vectorList}
 use Rattle.control_bytes.specs.Control.{controlCheck}
 use Rattle.lock.specs.Lock.{slipsOf}
 use Rattle.diagrams.specs.Diagram.{stateNumber}
 use Rattle.diagrams.specs.declared.State.{State}
 use Rattle.diagrams.specs.declared.State.the-variants.{Init, Control, Data, Terminate, Error, LowPower}
-use Rattle.transmit.specs.Send.{vectorList, errorBlock, ownBlock, replacedIn, lineWords, historyOver}
+use Rattle.transmit.specs.Send.{errorBlock, ownBlock, replacedIn, lineWords, historyOver}
 use Rattle.sending.specs.Answer.{SendAnswer, sent, refused}
 use Rattle.receiving.specs.Machine.{Tested, validOf}
 use Rattle.receiving.specs.Receive.{Judged, answer, judgedAlone, countsOf, handedOf, runOf}

@@ -1,18 +1,23 @@
 -- The verdict on a list of vectors, as callers use it, and how large an answer can be. Assumes nothing.
-use Prim.Native.Nat.{ℕ, zero, suc, _*_, _/_, _%_, _<_, _≤_}
-use mathlib.Core.Path.{_≡_, refl, ap}
-use mathlib.Core.Bool.{Bool, true, false, cond, not}
-use mathlib.Core.List.{List, [], _∷_}
-use mathlib.Core.Logic.{_⊎_, inl, inr, ⊎-elim}
+use Prim.Native.Nat.{ℕ, zero, suc, _*_, _/_, _<_, _≤_}
+use mathlib.Core.Path.{_≡_, refl, sym, ap, _∙_}
+use mathlib.Core.Bool.{Bool, true, false, cond}
+use mathlib.Core.List.{List, [], _∷_, _++_}
 use native.Mathlib.Omega.{arith}
-use lib.Dec.{ltb, eqb}
+use lib.Dec.{ltb}
 use lib.ListN.{length, drop}
-use borrow.Author.Tests.{ltb-true, ltb-false, lt-ltb, le-ltb}
-use Rattle.refusals.specs.First.{check, checkAt, Verdict, accepted, refused, first, byVerdict}
-use Rattle.control_bytes.specs.Control.{highControl}
+use borrow.Author.Tests.{ltb-false, lt-ltb, le-ltb}
+use Rattle.refusals.specs.Number.{numberOf}
+use Rattle.refusals.specs.declared.Refusal.{Refusal}
+use Rattle.refusals.specs.declared.Refusal.the-variants.{Room}
+use Rattle.refusals.proofs.Laws.{first-append, applied, skipped, accepts}
+use Rattle.refusals.specs.First.{Check, checkAt, Verdict, accepted, refused, first, byVerdict}
+use Rattle.vector_checks.specs.Checks.{vectorChecks}
+use Rattle.vector_checks.proofs.Laws.{short, place-few, stopped, went-on}
 use Rattle.frames.specs.Frames.{wordsIn, wordList}
 use Rattle.frames.proofs.Apart.{few-frames}
-use Rattle.frame_list.specs.Answer.{framesNumber, framesListed, ListAnswer, listChecks, listAnswer}
+use Rattle.frame_list.specs.Answer.{entries, framesIn, framesNumber, framesListed, ListAnswer, listChecks, listAnswer, listAfter, Lists}
+use Rattle.frame_list.specs.declared.Listed.the-variants.{Done, Refused}
 use Rattle.frame_list.specs.Demand1.{RoomEnough}
 use Rattle.frame_list.specs.Answer as Answer
 
@@ -60,21 +65,49 @@ pub verdict-told : (bytes : List ℕ) (list : ℕ) → verdictOfList (listAnswer
 unfolding listAnswer
 verdict-told bytes list = told (first (listChecks bytes list)) (framesNumber bytes)
 
--- a refusal's place is 0, or that of a control byte, or the number of frames
-refusal-place : (a b c d : Bool) (h f n p : ℕ) → first (check 1 a ∷ check 2 b ∷ checkAt 5 h c ∷ checkAt 4 f d ∷ []) ≡ refused n p
-    → (p ≡ 0) ⊎ (((a ≡ false) × (c ≡ true) × (h ≡ p)) ⊎ ((a ≡ false) × (f ≡ p)))
-unfolding first
-refusal-place true b c d h f n p q = inl cc
-refusal-place false true c d h f n p q = inl cc
-refusal-place false false true d h f n p q = inr (inl (refl, refl, cc))
-refusal-place false false false true h f n p q = inr (inr (refl, cc))
-refusal-place false false false false h f n p q = inl cc
+-- ---- by the checks of the vectors, and of the list behind them
+
+module _ (bytes list : List ℕ) where
+  abbrev behind : List Check
+  behind = checkAt 4 (framesNumber bytes) (ltb (length list) (12 * framesNumber bytes)) ∷ []
+
+  -- the vectors are refused
+  pub bad-vectors : (why : Refusal) (place : ℕ) → refused (numberOf why) place ≡ first (vectorChecks bytes) → Lists bytes list (Refused why place) list
+  unfolding listAnswer listAfter listChecks
+  bad-vectors why place e =
+      (stopped bytes behind (framesListed (framesNumber bytes)) Answer.refused (numberOf why) place e, stopped bytes behind _ (λ number place. list) (numberOf why) place e)
+
+  module _ (a : accepted ≡ first (vectorChecks bytes)) where
+    -- the list is too small
+    pub small-list : (frames : ℕ) → frames ≡ framesNumber bytes → ltb (length list) (12 * framesNumber bytes) ≡ true → Lists bytes list (Refused Room frames) list
+    unfolding listAnswer listAfter listChecks
+    small-list frames e t =
+        let is : refused 4 frames ≡ first behind = ap (refused 4) e ∙ sym (applied (checkAt 4 (framesNumber bytes) (ltb (length list) (12 * framesNumber bytes))) [] t) in
+        (went-on bytes behind (framesListed (framesNumber bytes)) Answer.refused a (refused 4 frames) is, went-on bytes behind _ (λ number place. list) a (refused 4 frames) is)
+
+    pub list-done : ltb (length list) (12 * framesNumber bytes) ≡ false
+        → Lists bytes list (Done (framesNumber bytes)) (entries (framesIn bytes) ++ drop (length (entries (framesIn bytes))) list)
+    unfolding listAnswer listAfter listChecks
+    list-done t =
+        let is : accepted ≡ first behind = sym (skipped (checkAt 4 (framesNumber bytes) (ltb (length list) (12 * framesNumber bytes))) [] t ∙ accepts) in
+        (went-on bytes behind (framesListed (framesNumber bytes)) Answer.refused a accepted is, went-on bytes behind _ (λ number place. list) a accepted is)
+
+-- ---- how large a refusal's place can be
 
 pub place-small : (bytes : List ℕ) (list n p : ℕ) → first (listChecks bytes list) ≡ refused n p → p ≤ 1000000
 unfolding listChecks
-place-small bytes list n p q =
-    ⊎-elim (λ z. omega arith)
-    (⊎-elim (λ t. omega (arith, ltb-false 1000000 (length bytes) (t .0), ltb-true (highControl bytes) (length bytes) (t .1)))
-    (λ t. omega (arith, ltb-false 1000000 (length bytes) (t .0), number-most bytes)))
-    (refusal-place (ltb 1000000 (length bytes)) (not (eqb (length bytes % 40) 0)) (ltb (highControl bytes) (length bytes)) (ltb list (12 * framesNumber bytes))
-    (highControl bytes) (framesNumber bytes) n p q)
+place-small bytes list n p q = go (first (vectorChecks bytes)) refl (sym (first-append (vectorChecks bytes) _) ∙ q)
+  where
+    last : (b : Bool) (f : ℕ) → first (checkAt 4 f b ∷ []) ≡ refused n p → f ≤ 1000000 → p ≤ 1000000
+    last true f e l =
+        let q : refused 4 f ≡ refused n p = sym (applied (checkAt 4 f true) [] refl) ∙ e in
+        let z : f ≡ p = cc in
+        omega arith
+    last false f e l =
+        let q : accepted ≡ refused n p = sym (skipped (checkAt 4 f false) [] refl ∙ accepts) ∙ e in
+        absurd (let z : _≡_ {A = ℕ} 0 1 = cc in omega arith)
+
+    go : (v : Verdict) → first (vectorChecks bytes) ≡ v
+        → byVerdict v (first (checkAt 4 (framesNumber bytes) (ltb list (12 * framesNumber bytes)) ∷ [])) refused ≡ refused n p → p ≤ 1000000
+    go (refused m o) e f = place-few bytes n p (e ∙ f)
+    go accepted e f = last (ltb list (12 * framesNumber bytes)) (framesNumber bytes) f (omega (arith, short bytes e, number-most bytes))

@@ -43,7 +43,7 @@ put-three l l₁ l₂ l₃ at a b c h e₁ e₂ e₃ =
 
 -- ---- listing
 
--- Nothing is framesListed where no frame begins.
+-- Nothing is listed where no frame begins.
 pub lists-stop : (bytes : List ℕ) (k n s : ℕ) (l : List ℕ) → FindsStart bytes k s → ListsOn bytes k n l (record { word = s; entries = n }) l
 lists-stop bytes k n s l f =
     record {
@@ -81,7 +81,7 @@ pub left-room : (bytes : List ℕ) (k n room : ℕ) → k < length bytes / 5 →
     → 12 * (n + length (framesLeft bytes k)) ≤ room → 12 * n + 12 ≤ room
 left-room bytes k n room h b l = let u = ap (λ (fs : List Frame). length fs) (left-some bytes k h b) in omega arith
 
--- A frame is framesListed.
+-- A frame is listed.
 pub lists-put : (bytes : List ℕ) (k n : ℕ) (l m : List ℕ) (e : Ended) → k < length bytes / 5 → (quietBefore bytes k && starts (nthWord bytes k)) ≡ true → ReadsFrame bytes k e
     → 12 * n + 12 ≤ length l
     → m ≡ take (12 * n) l ++ wordBytes 4 (k ∷ e .octets ∷ flagWord (e .good) ∷ []) ++ drop (12 * n + 12) l

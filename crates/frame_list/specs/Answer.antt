@@ -1,13 +1,12 @@
 -- What listing the frames answers, and what it leaves in the lent list: document 02, 5/13, with the refusals of document 01.
-use Prim.Native.Nat.{ℕ, _*_, _%_}
+use Prim.Native.Nat.{ℕ, _*_}
 use mathlib.Core.List.{List, [], _∷_, _++_}
-use mathlib.Core.Bool.{not}
 use mathlib.Core.Path.{_≡_}
 use lib.ListN.{length, drop}
-use lib.Dec.{ltb, eqb}
+use lib.Dec.{ltb}
 use Rattle.refusals.specs.Number.{numberOf}
-use Rattle.refusals.specs.First.{Check, check, checkAt, first, byVerdict}
-use Rattle.control_bytes.specs.Control.{controlCheck}
+use Rattle.refusals.specs.First.{Check, checkAt, first, byVerdict}
+use Rattle.vector_checks.specs.Checks.{vectorChecks}
 use Rattle.lent_words.specs.Words.{wordBytes, flagWord}
 use Rattle.frames.specs.Frames.{wordList, dataOctets, isGood, Frame, framesOf}
 use Rattle.frame_list.specs.declared.Listed.{Listed}
@@ -17,7 +16,7 @@ use Rattle.frame_list.specs.declared.Listed.the-variants.{Done, Refused}
 abbrev pub entryWords : Frame → List ℕ
 entryWords f = f .word ∷ length (dataOctets (f .characters)) ∷ flagWord (isGood (f .characters)) ∷ []
 
--- "Each frame is framesListed once, in order": an entry is three words of 32 bits, 12 bytes
+-- "Each frame is listed once, in order": an entry is three words of 32 bits, 12 bytes
 unfoldable pub entries : List Frame → List ℕ
 entries [] = []
 entries (f ∷ fs) = wordBytes 4 (entryWords f) ++ entries fs
@@ -31,12 +30,7 @@ framesNumber bytes = length (framesIn bytes)
 
 -- "Refusals: 1, 2, 5 as in sending, then 4 for a list too small, with the number of frames as place", into a list of so many bytes
 unfoldable pub listChecks : List ℕ → (list : ℕ) → List Check
-listChecks bytes list =
-    check 1 (ltb 1000000 (length bytes))
-    ∷ check 2 (not (eqb (length bytes % 40) 0))
-    ∷ controlCheck bytes
-    ∷ checkAt 4 (framesNumber bytes) (ltb list (12 * framesNumber bytes))
-    ∷ []
+listChecks bytes list = vectorChecks bytes ++ checkAt 4 (framesNumber bytes) (ltb list (12 * framesNumber bytes)) ∷ []
 
 -- the number of frames; or a refusal's number and place
 pub data ListAnswer : Type 0 where

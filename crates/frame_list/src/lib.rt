@@ -1,11 +1,12 @@
 // The frames of a list of vectors: document 02, 5/13.
-use control_bytes::first_high;
 use frame_reading::read_frame;
 use frame_starts::count;
 use frame_starts::next_start;
 use lent_words::flag;
 use line::store_half;
 use refusals::Refusal;
+use vector_checks::Checked;
+use vector_checks::check_vectors;
 ghost use mathlib.Core.Path.{_≡_};
 ghost use mathlib.Core.Bool.{true, cond, _&&_};
 ghost use mathlib.Core.List.{[], _∷_, _++_};
@@ -18,7 +19,7 @@ ghost use Rattle.frames.specs.Words.{nthWord, quietBefore, framesLeft};
 ghost use Rattle.frame_list.specs.Answer.{entries, framesIn, framesNumber, Lists};
 ghost use Rattle.frame_list.specs.Listing.{ListsOn};
 
-// The answer: how many frames were framesListed; or a refusal and its place.
+// The answer: how many frames were listed; or a refusal and its place.
 pub enum Listed {
     Done(usize),
     Refused(Refusal, usize),
@@ -73,7 +74,7 @@ fn inside(bytes: &[u8], list: &mut [u8], k: usize, n: usize, turns: usize) -> Re
     between(bytes, list, next, n + 1, turns - 1)
 }
 
-// All frames, framesListed from the start of the list; how many they are.
+// All frames, listed from the start of the list; how many they are.
 fn list_all(bytes: &[u8], list: &mut [u8]) -> usize
     requires { ⌜ (length (now bytes) ≤ 1000000) × (12 * framesNumber (now bytes) ≤ length (now list)) ⌝ }
     ensures { λ r. ⌜ (r ≡ framesNumber (now (bytes .entry))) × (now (list .exit) ≡ entries (framesIn (now (bytes .entry))) ++ drop (length (entries (framesIn (now (bytes .entry))))) (now (list .entry))) ⌝ }
@@ -103,20 +104,14 @@ fn counted(bytes: &[u8], list: usize) -> usize
 pub fn list(vectors: &[u8], list: &mut [u8]) -> Listed
     ensures { λ r. ⌜ Lists (now (vectors .entry)) (now (list .entry)) r (now (list .exit)) ⌝ }
 {
-    let n = vectors.len();
-    if 1000000 < n {
-        return Listed::Refused(Refusal::TooMuch, 0);
+    match check_vectors(vectors) {
+        Checked::Refused(why, place) => Listed::Refused(why, place),
+        Checked::Sound => {
+            let frames = counted(vectors, list.len());
+            if list.len() < 12 * frames {
+                return Listed::Refused(Refusal::Room, frames);
+            }
+            Listed::Done(list_all(vectors, list))
+        }
     }
-    if n % 40 != 0 {
-        return Listed::Refused(Refusal::NotGroups, 0);
-    }
-    let high = first_high(vectors);
-    if high < n {
-        return Listed::Refused(Refusal::ControlByte, high);
-    }
-    let frames = counted(vectors, list.len());
-    if list.len() < 12 * frames {
-        return Listed::Refused(Refusal::Room, frames);
-    }
-    Listed::Done(list_all(vectors, list))
 }

@@ -9,17 +9,17 @@ use lib.Seq.{drop-drop}
 use Rattle.block.specs.declared.Edition.{Edition}
 use Rattle.block.specs.declared.Edition.the-variants.{New}
 use Rattle.block.specs.declared.Kind.the-variants.{D}
-use Rattle.block.specs.Block.{carrier}
+use Rattle.block.specs.Block.{carrier, vectorsIn}
 use Rattle.block.specs.Coded.{codedOf}
 use Rattle.encoding.specs.Parts.{lanesAt}
 use Rattle.quick_encoding.proofs.Plain.{data-coded, idle-coded, low-coded}
-use Rattle.transmit.specs.Send.{vectorsIn}
 use Rattle.transmit.specs.declared.Sender.{Sender}
 use Rattle.transmit.specs.declared.Step.{Step}
+use Rattle.control_bytes.specs.Control.{Low}
+use Rattle.encoding.proofs.Vectors.{vector-read}
 use Rattle.groups.specs.declared.Group.{Group}
-use Rattle.groups.specs.Four.{octetsAt, Codes, CodedAlike, AllAre, controlsAt, Low, groupOf, groupWords, SentFour}
+use Rattle.groups.specs.Four.{octetsAt, Codes, CodedAlike, AllAre, controlsAt, groupOf, groupWords, SentFour}
 use Rattle.transmit.specs.Steps.{idleCoded, lowPowerCoded, SentAs, SentOne}
-use Rattle.groups.proofs.Vectors.{vector-read}
 use Rattle.transmit.proofs.Laws.{sends-join}
 
 -- the four vectors from a place on

@@ -1,3 +1,2 @@
-pub mod Vectors
 pub mod Four
 pub mod Unique

@@ -7,7 +7,7 @@ use lib.ListN.{drop, getD}
 use Rattle.line.specs.BlockNumber.{blockNumber}
 use Rattle.line.specs.declared.Block.{Block}
 use Rattle.block.specs.declared.Edition.{Edition}
-use Rattle.transmit.specs.Send.{vectorsIn}
+use Rattle.block.specs.Block.{vectorsIn}
 use Rattle.transmit.specs.declared.Sender.{Sender}
 use Rattle.groups.specs.declared.Group.{Group}
 use Rattle.groups.specs.Four.{groupWords, SentFour}

@@ -1,5 +1,5 @@
 -- A reviewer can skip this file: what the functions that send four vectors promise each other.
-use Prim.Native.Nat.{ℕ, _+_, _*_, _<_, _≤_}
+use Prim.Native.Nat.{ℕ, _+_, _*_, _<_}
 use mathlib.Core.Path.{_≡_}
 use mathlib.Core.List.{List, [], _∷_}
 use lib.ListN.{getD, take, drop}
@@ -14,10 +14,6 @@ use Rattle.transmit.specs.declared.Sender.{Sender}
 use Rattle.transmit.specs.declared.Step.{Step}
 use Rattle.groups.specs.declared.Group.{Group}
 use Rattle.transmit.specs.Steps.{SentAs}
-
--- no control byte is above 15
-abbrev pub Low : List ℕ → Type 0
-Low bytes = (i : ℕ) → getD bytes (5 * i) 0 ≤ 15
 
 -- The vector at a place of the vector bytes: its eight octets, character 0 lowest, and that it is encoded as this.
 abbrev pub octetsAt : List ℕ → ℕ → ℕ

@@ -16,9 +16,10 @@ ghost use mathlib.Core.Bool.{true};
 ghost use mathlib.Core.List.{List};
 ghost use Prim.Native.Nat.{ℕ, _+_, _%_, _^_, _<_, _≤_};
 ghost use lib.ListN.{length, getD, drop};
-ghost use Rattle.transmit.specs.Send.{vectorsIn};
+ghost use Rattle.block.specs.Block.{vectorsIn};
 ghost use Rattle.transmit.specs.Steps.{idleCoded, lowPowerCoded};
-ghost use Rattle.groups.specs.Four.{Low, octetsAt, Codes, CodedAlike, AllAre, controlsAt, groupOf, SentFour};
+ghost use Rattle.control_bytes.specs.Control.{Low};
+ghost use Rattle.groups.specs.Four.{octetsAt, Codes, CodedAlike, AllAre, controlsAt, groupOf, SentFour};
 
 // Four vectors sent: their blocks as they go on the line, and where sending then stands.
 pub struct Group {

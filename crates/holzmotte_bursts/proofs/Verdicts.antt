@@ -8,10 +8,10 @@ use lib.ListN.{length, take, drop}
 use lib.Dec.{ltb, lit<}
 use borrow.Author.Tests.{lt-ltb, le-ltb, ltb-false}
 use Rattle.refusals.specs.First.{Check, check, Verdict, accepted, refused, first, byVerdict}
-use Rattle.refusals.proofs.Laws.{passed}
+use Rattle.refusals.proofs.Laws.{passed, skipped}
 use Rattle.lent_words.specs.Words.{resultOf, tooShort, oneMoreAfter}
 use Rattle.slices.specs.Slices.{shortSlice}
-use Rattle.lent_words.proofs.Laws.{first-after, skipped, place-zero, Numbered, refusal-above, result-zero}
+use Rattle.lent_words.proofs.Laws.{first-after, place-zero, Numbered, refusal-above, result-zero}
 use Rattle.lent_words.proofs.Applied.{cut-off, never}
 use Rattle.kept_state.specs.declared.State.{State}
 use Rattle.judging.specs.Judging.{roomFor, burstChecks, burstVerdict}

@@ -1,19 +1,17 @@
 -- What reading and writing a record through C come to, by what the reader and the writer answered. Assumes nothing.
-use Prim.Native.Nat.{ℕ, _+_, _*_, _%_, _^_, _≤_, _<_}
+use Prim.Native.Nat.{ℕ, _+_, _*_, _%_, _^_, _<_}
 use mathlib.Core.Path.{_≡_, refl, sym, ap, _∙_}
 use mathlib.Core.Bool.{Bool, true, false, cond}
-use mathlib.Core.List.{List, [], _∷_, _++_}
+use mathlib.Core.List.{List, [], _∷_}
 use native.Mathlib.Omega.{arith}
-use lib.ListN.{length, drop, replicate}
-use borrow.Author.Tests.{lt-ltb, le-ltb}
+use lib.ListN.{length, replicate}
 use lib.Dec.{leb}
 use Rattle.refusals.specs.First.{check, Verdict, accepted, refused, first, byVerdict}
-use Rattle.refusals.proofs.Laws.{one-more}
+use Rattle.refusals.proofs.Laws.{first-append}
 use Rattle.records.specs.Record.{bodyLimit, readChecks, Answer, whole, end, readAt}
 use Rattle.records.specs.Record as Record
 use Rattle.record_writing.specs.Writing.{writeChecks, WriteAnswer, wrote, unwritten, writeAnswer}
-use Rattle.lent_words.specs.Words.{resultOf, wordBytes, tooShort, summaryWith}
-use Rattle.lent_words.proofs.Laws.{summary-short, summary-long}
+use Rattle.lent_words.specs.Words.{resultOf, tooShort, summaryWith}
 use Rattle.holzmotte_records.specs.Boundary.{readingChecks, readingResult, recordWords, ReadsThroughC}
 
 -- ---- reading
@@ -44,20 +42,10 @@ module _ (file : List ℕ) (place summary : ℕ) where
 
   pub reading-verdict : first (readingChecks file place summary)
       ≡ byVerdict (verdictOf (readAt bodyLimit file place)) (onSummary summary) refused
-  unfolding readingChecks readAt
+  unfolding readingChecks readAt first
   reading-verdict =
-      one-more (cond (leb (length file) place) [] (readChecks bodyLimit file place)) (check 4 (tooShort 8 5 summary))
+      first-append (cond (leb (length file) place) [] (readChecks bodyLimit file place)) (check 4 (tooShort 8 5 summary) ∷ [])
       ∙ ap (λ (v : Verdict). byVerdict v (onSummary summary) refused) (by-end (leb (length file) place) _ _ _ _)
-
--- five words, to a summary that is too short or long enough for them
-pub told-short : (words summary : List ℕ) → length summary < 40 → (_≡_ {A = ℕ} 4 (cond (tooShort 8 5 (length summary)) 4 0)) × (summary ≡ summaryWith 5 words summary)
-told-short words summary h = let t = lt-ltb (length summary) 40 h in (simp t, sym (summary-short 5 words summary h))
-
-pub told-long : (words summary after : List ℕ) → length words ≡ 5 → 40 ≤ length summary → after ≡ wordBytes 8 words ++ drop (8 * length words) summary
-    → (_≡_ {A = ℕ} 0 (cond (tooShort 8 5 (length summary)) 4 0)) × (after ≡ summaryWith 5 words summary)
-told-long words summary after e h put =
-    let t = le-ltb (length summary) 40 h in
-    (simp t, put ∙ ap (λ (n : ℕ). wordBytes 8 words ++ drop (8 * n) summary) e ∙ sym (summary-long 5 words summary h))
 
 -- 4 or 0 as a result
 short-result : (short : Bool) → cond short 4 0 ≡ resultOf (cond short (refused 4 0) accepted) % 2 ^ 64

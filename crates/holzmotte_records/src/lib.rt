@@ -1,27 +1,11 @@
 // The C boundary of capture records: byte slices and 64-bit numbers. include/holzmotte.h says what each pointer is.
-use lent_words::put_words;
 use lent_words::refusal;
+use lent_words::told;
 use record_writing::Written;
 use record_writing::write;
 use records::Found;
 use records::read;
-ghost use mathlib.Core.Path.{_≡_};
-ghost use mathlib.Core.Bool.{cond};
-ghost use lib.ListN.{length};
-ghost use Rattle.lent_words.specs.Words.{tooShort, summaryWith};
 ghost use Rattle.holzmotte_records.specs.Boundary.{ReadsThroughC, WritesThroughC};
-
-// Five words to the summary; or refusal 4, where it is too short for them.
-fn told(summary: &mut [u8], words: &[u64; 5]) -> u64
-    ensures { λ r. ⌜ r ≡ cond (tooShort 8 5 (length (now (summary .entry)))) 4 0 ⌝ }
-    ensures { λ _. ⌜ now (summary .exit) ≡ summaryWith 5 (now (words .entry)) (now (summary .entry)) ⌝ }
-{
-    if summary.len() < 40 {
-        return 4;
-    }
-    put_words(summary, words);
-    0
-}
 
 // Reads the record whose head is at a place of a file: five words to the summary.
 #[no_mangle]

@@ -10,8 +10,9 @@ use Rattle.block.proofs.Classes.{kind-good}
 use Rattle.diagrams.specs.Diagram.{diagramOf, follows}
 use Rattle.diagrams.specs.declared.State.{State}
 use Rattle.diagrams.specs.declared.State.the-variants.{Init}
+use Rattle.bits.specs.Lists.{howMany}
 use Rattle.receiving.specs.Machine.{Tested}
-use Rattle.receiving.specs.Receive.{letsEnd, ends, stateOf, Judged, judge, answer, lastIs, judgedAlone, howMany, decodes, begins, replaces, handedOf}
+use Rattle.receiving.specs.Receive.{letsEnd, ends, stateOf, Judged, judge, answer, lastIs, judgedAlone, decodes, begins, replaces, handedOf}
 use Rattle.receiving.specs.Parts.{Settled, settle, bytesOf}
 
 -- a block without them

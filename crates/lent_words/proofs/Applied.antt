@@ -4,9 +4,9 @@ use mathlib.Core.Path.{_≡_, refl, sym, ap, _∙_}
 use mathlib.Core.Bool.{Bool, true, false, cond, true≢false}
 use mathlib.Core.List.{List, [], _∷_, _++_}
 use Rattle.refusals.specs.First.{Check, check, Verdict, accepted, refused, first}
-use Rattle.refusals.proofs.Laws.{passed}
+use Rattle.refusals.proofs.Laws.{passed, skipped}
 use Rattle.lent_words.specs.Words.{resultOf}
-use Rattle.lent_words.proofs.Laws.{head-first, skipped}
+use Rattle.lent_words.proofs.Laws.{head-first}
 
 -- What sending or receiving with no room comes to, where the summary is too short: an answer is refusal 4.
 abbrev pub shortOf : Verdict → ℕ

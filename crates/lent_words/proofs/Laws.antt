@@ -13,16 +13,13 @@ use Rattle.bits.specs.Bits.{bit, number, streamBit, lineBit, cut}
 use Rattle.bits.proofs.Laws.{length-cut, bit-lt, is-number, number-same, stream-cut}
 use Rattle.bits.proofs.Lists.{stream-left, stream-right}
 use Rattle.refusals.specs.First.{Check, check, Verdict, accepted, refused, first, byVerdict}
+use Rattle.refusals.proofs.Laws.{skipped}
 use Rattle.lent_words.specs.Words.{resultOf, oneMoreAfter, wordAt, wordBytes, tooShort, summaryWith}
 
 -- one more check that does not apply changes nothing
 pub head-first : (c : Check) (cs ds : List Check) → first cs ≡ first ds → first (c ∷ cs) ≡ first (c ∷ ds)
 unfolding first
 head-first c cs ds e = ap (λ (v : Verdict). cond (c .applies) (refused (c .number) (c .place)) v) e
-
-pub skipped : (c : Check) (cs : List Check) → c .applies ≡ false → first (c ∷ cs) ≡ first cs
-unfolding first
-skipped c cs e = rw e
 
 pub first-after : (k : ℕ) (c : Check) (cs : List Check) → c .applies ≡ false → first (oneMoreAfter k c cs) ≡ first cs
 first-after zero c cs e = skipped c cs e
@@ -91,6 +88,15 @@ pub summary-long : (n : ℕ) (words summary : List ℕ) → 8 * n ≤ length sum
 unfolding summaryWith
 summary-long n words summary l = rw (le-ltb (length summary) (8 * n) l)
 
+-- words told to a summary that is too short or long enough for them
+pub told-short : (words summary : List ℕ) → length summary < 8 * length words
+    → (_≡_ {A = ℕ} 4 (cond (tooShort 8 (length words) (length summary)) 4 0)) × (summary ≡ summaryWith (length words) words summary)
+told-short words summary h = let t = lt-ltb (length summary) (8 * length words) h in (rw t, sym (summary-short (length words) words summary h))
+
+pub told-long : (words summary after : List ℕ) → 8 * length words ≤ length summary → after ≡ wordBytes 8 words ++ drop (8 * length words) summary
+    → (_≡_ {A = ℕ} 0 (cond (tooShort 8 (length words) (length summary)) 4 0)) × (after ≡ summaryWith (length words) words summary)
+told-long words summary after h put = let t = le-ltb (length summary) (8 * length words) h in (rw t, put ∙ sym (summary-long (length words) words summary h))
+
 pub length-words : (k : ℕ) (ws : List ℕ) → length (wordBytes k ws) ≡ k * length ws
 length-words k [] = omega arith
 length-words k (w ∷ ws) =
@@ -105,10 +111,11 @@ zero-words (suc n) =
     ∙ replicate-append-replicate 8 (8 * n) 0
     ∙ ap (λ (k : ℕ). replicate k 0) (let e : 8 + 8 * n ≡ 8 * suc n = omega arith in e)
 
-one-more : (ws : List ℕ) (w : ℕ) → wordBytes 8 (ws ++ w ∷ []) ≡ wordBytes 8 ws ++ cut 8 (bit w) 8
-one-more [] w = append-nil (cut 8 (bit w) 8)
-one-more (x ∷ ws) w =
-    ap (λ (l : List ℕ). cut 8 (bit x) 8 ++ l) (one-more ws w) ∙ sym (append-assoc (cut 8 (bit x) 8) (wordBytes 8 ws) (cut 8 (bit w) 8))
+-- of two lists of words, one after the other
+pub words-append : (k : ℕ) (us ws : List ℕ) → wordBytes k (us ++ ws) ≡ wordBytes k us ++ wordBytes k ws
+words-append k [] ws = refl
+words-append k (u ∷ us) ws =
+    ap (λ (l : List ℕ). cut 8 (bit u) k ++ l) (words-append k us ws) ∙ sym (append-assoc (cut 8 (bit u) k) (wordBytes k us) (wordBytes k ws))
 
 -- ---- words put one after the other
 
@@ -142,7 +149,7 @@ module _ (before words : List ℕ) (room : 8 * length words ≤ length before) w
           ∙ ap (λ (n : ℕ). drop n before) k
 
       more : wordBytes 8 (take (i + 1) words) ≡ wordBytes 8 (take i words) ++ cut 8 (bit (getD words i 0)) 8
-      more = ap (λ (k : ℕ). wordBytes 8 (take k words)) (add-one i) ∙ ap (wordBytes 8) (take-suc words i 0 l) ∙ one-more (take i words) (getD words i 0)
+      more = ap (λ (k : ℕ). wordBytes 8 (take k words)) (add-one i) ∙ ap (wordBytes 8) (take-suc words i 0 l) ∙ words-append 8 (take i words) (getD words i 0 ∷ []) ∙ ap (λ (l : List ℕ). wordBytes 8 (take i words) ++ l) (append-nil (cut 8 (bit (getD words i 0)) 8))
 
       bytes : next ≡ wordBytes 8 (take (i + 1) words) ++ drop (8 * (i + 1)) before
       bytes =

@@ -9,9 +9,10 @@ use Rattle.gather.specs.File.{gathering}
 use Rattle.display.specs.Display.{ascii, pieces, hexDigits, decimalBy, summaryLines}
 use Rattle.lock.specs.Lock.{invalidOf, slipsOf, countedOf, lockOf}
 use Rattle.lock.specs.Rate.{rateOf}
+use Rattle.bits.specs.Lists.{howMany}
 use Rattle.receiving.specs.Machine.{validOf, linkOf, testedOf, feed, filled, run}
 use Rattle.block.specs.Block.{editionOf}
-use Rattle.receiving.specs.Receive.{letsEnd, ends, stateOf, answerIn, judge, answers, howMany, countsOf, runOf, vectorsOf, receivedVectors}
+use Rattle.receiving.specs.Receive.{letsEnd, ends, stateOf, answerIn, judge, answers, countsOf, runOf, vectorsOf, receivedVectors}
 use Rattle.receiving.specs.Answer.{receiveChecks, summaryOf, receiveAnswer}
 use Rattle.programs.specs.Programs.{receiverText, receiverOn}
 

@@ -6,18 +6,20 @@ use mathlib.Core.Bool.{Bool, true, false, cond, _&&_, true≢false}
 use mathlib.Core.List.{List, [], _∷_, map}
 use Rattle.scrambler.specs.Scrambler.{descrambled}
 use Rattle.block.specs.declared.Edition.{Edition}
-use Rattle.block.specs.Block.{decoded, isS, isErrorVector, errorVector, vectorKind, kindIn}
+use Rattle.block.specs.declared.Edition.the-variants.{Old, New}
+use Rattle.block.specs.Block.{decoded, isS, isError, isErrorVector, errorVector, vectorKind, kindIn}
 use Rattle.block.specs.declared.Kind.{Kind}
-use Rattle.block.specs.declared.Kind.the-variants.{E}
+use Rattle.block.specs.declared.Kind.the-variants.{D, C, S, T, E, LI}
 use Rattle.refusals.proofs.Laws.{by-test}
 use Rattle.bits.proofs.Tests.{is-true}
 use Rattle.block.proofs.Reading.{same-is}
-use Rattle.block.proofs.Carried.{kind-of-error, kind-of-fault, kind-of-decoded}
+use Rattle.block.proofs.Carried.{kind-of-error, kind-of-fault, kind-of-decoded, kind-newer}
 use Rattle.diagrams.specs.Diagram.{afterIdle, afterData, afterError, afterLow, diagramOf}
 use Rattle.diagrams.specs.declared.State.{State}
 use Rattle.diagrams.specs.declared.State.the-variants.{Init, Control, Data, Terminate, Error, LowPower}
+use Rattle.bits.specs.Lists.{howMany}
 use Rattle.receiving.specs.Machine.{Tested, testedOf}
-use Rattle.receiving.specs.Receive.{ends, stateOf, answerIn, judge, answers, howMany, decodes, errs, begins, replaces, handedOf, vectorsOf}
+use Rattle.receiving.specs.Receive.{ends, stateOf, answerIn, judge, answers, decodes, errs, begins, replaces, handedOf, vectorsOf}
 use Rattle.receiving.specs.Answer.{summaryOf}
 use Rattle.receiving.specs.Reasons.{Taken, takenBlocks}
 use Rattle.receiving.proofs.Reasons.{test, tested-of, AllOf, all-of, kind-tested}
@@ -39,6 +41,15 @@ no-error Data e = refl
 no-error Terminate e = refl
 no-error Error e = refl
 no-error LowPower e = refl
+
+-- kind E by its test
+error-is : (k : Kind) → isError k ≡ true → k ≡ E
+error-is D e = absurd (true≢false (sym e))
+error-is C e = absurd (true≢false (sym e))
+error-is S e = absurd (true≢false (sym e))
+error-is T e = absurd (true≢false (sym e))
+error-is E e = refl
+error-is LI e = absurd (true≢false (sym e))
 
 module _ (ed : Edition) where
   -- ---- of one block, from its kind and its vector
@@ -121,3 +132,49 @@ module _ (ed : Edition) where
   replaced-are-errors line =
       ap (λ (ts : List Tested). howMany replaces (judge Init ts)) (tested-of ed line) ∙ replaced-from Init (takenBlocks ed line) (all-of ed line)
       ∙ sym (ap (λ (ts : List Tested). howMany isErrorVector (answers Init ts)) (tested-of ed line))
+
+-- ---- a vector that was handed out is of kind S in its own edition exactly if it is in the newer
+
+-- what a line of the older edition is answered with has the same kind in both
+newer-answer : (s : State) (t : Tested) (e : Bool) → OwnKind Old t
+    → isS (vectorKind New (answerIn (stateOf s t e) (t .vector))) ≡ isS (vectorKind Old (answerIn (stateOf s t e) (t .vector)))
+unfolding stateOf answerIn
+newer-answer s t e p = on (t .on)
+  where
+    -- an answer as decoded is of no kind E
+    decoded-same : (k : Kind) → vectorKind Old (t .vector) ≡ k → decodes (diagramOf s k e) ≡ true → isS (vectorKind New (t .vector)) ≡ isS (vectorKind Old (t .vector))
+    decoded-same k q d =
+        by-test (isError (vectorKind Old (t .vector)))
+        (λ w. absurd (true≢false (sym d ∙ ap (λ (z : Kind). decodes (diagramOf s z e)) (sym q ∙ error-is (vectorKind Old (t .vector)) w) ∙ no-error s e)))
+        (λ w. ap isS (kind-newer (t .vector) w))
+
+    by : (σ : State) → (decodes σ ≡ true → isS (vectorKind New (t .vector)) ≡ isS (vectorKind Old (t .vector)))
+        → isS (vectorKind New (answerIn σ (t .vector))) ≡ isS (vectorKind Old (answerIn σ (t .vector)))
+    by Init n = ap isS (kind-of-fault New ∙ sym (kind-of-fault Old))
+    by Control n = n refl
+    by Data n = n refl
+    by Terminate n = n refl
+    by Error n = ap isS (kind-of-error New ∙ sym (kind-of-error Old))
+    by LowPower n = n refl
+
+    on : (b : Bool) → isS (vectorKind New (answerIn (cond b (diagramOf s (kindIn (t .class)) e) Init) (t .vector)))
+        ≡ isS (vectorKind Old (answerIn (cond b (diagramOf s (kindIn (t .class)) e) Init) (t .vector)))
+    on true = by (diagramOf s (kindIn (t .class)) e) (decoded-same (kindIn (t .class)) p)
+    on false = by Init (λ q. absurd (true≢false (sym q)))
+
+newer-from : (s : State) (ts : List Taken) → AllOf Old ts
+    → howMany (λ v. isS (vectorKind New v)) (answers s (map test ts)) ≡ howMany (λ v. isS (vectorKind Old v)) (answers s (map test ts))
+unfolding judge answers howMany
+newer-from s [] w = refl
+newer-from s (t ∷ ts) w =
+    let s′ = stateOf s (test t) (ends (map test ts)) in
+    ap₂ (λ (b : Bool) (n : ℕ). cond b 1 0 + n) (newer-answer s (test t) (ends (map test ts)) (own-kind Old t (w .0))) (newer-from s′ ts (w .1))
+
+-- so in either edition begun is what counting vectors of kind S by the newer gives
+pub begun-are-newer : (ed : Edition) (line : List ℕ) → summaryOf ed line .handed .begun ≡ howMany (λ v. isS (vectorKind New v)) (vectorsOf ed line)
+unfolding vectorsOf
+begun-are-newer New line = begun-are-starts New line
+begun-are-newer Old line =
+    begun-are-starts Old line
+    ∙ ap (λ (ts : List Tested). howMany (λ v. isS (vectorKind Old v)) (answers Init ts)) (tested-of Old line) ∙ sym (newer-from Init (takenBlocks Old line) (all-of Old line))
+    ∙ sym (ap (λ (ts : List Tested). howMany (λ v. isS (vectorKind New v)) (answers Init ts)) (tested-of Old line))

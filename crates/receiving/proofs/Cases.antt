@@ -9,8 +9,9 @@ use Rattle.block.specs.declared.Edition.the-variants.{Old, New}
 use Rattle.block.specs.Block.{localFaultVector, classOf}
 use Rattle.lock.specs.Lock.{lockOf, slipsOf, countedOf, invalidOf}
 use Rattle.lock.specs.Rate.{rateOf, windowOf}
+use Rattle.bits.specs.Lists.{howMany}
 use Rattle.receiving.specs.Machine.{run, feed, filled, testedOf, linkOf, validOf}
-use Rattle.receiving.specs.Receive.{judge, lastIs, answers, stateOf, answerIn, ends, letsEnd, howMany, countsOf, handedOf, runOf, vectorsOf, receivedVectors}
+use Rattle.receiving.specs.Receive.{judge, lastIs, answers, stateOf, answerIn, ends, letsEnd, countsOf, handedOf, runOf, vectorsOf, receivedVectors}
 use Rattle.receiving.specs.Answer.{summaryOf}
 
 -- Document 01's receiver example: nine zero bytes are one block with an invalid header, which slips.

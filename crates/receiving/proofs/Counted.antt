@@ -7,6 +7,8 @@ use native.Mathlib.Omega.{arith}
 use native.Mathlib.Nat.{add-zero, zero-add, add-assoc}
 use lib.Dec.{T}
 use lib.ListN.{length}
+use Rattle.bits.specs.Lists.{howMany}
+use Rattle.bits.proofs.HowMany.{one-le, how-few}
 use Rattle.block.specs.Block.{isError, isS, kindIn}
 use Rattle.block.specs.declared.Class.{Class}
 use Rattle.block.specs.declared.Class.the-variants as Class
@@ -15,7 +17,7 @@ use Rattle.block.specs.declared.Reason.the-variants.{Header, BlockType, Control
 use Rattle.diagrams.specs.declared.State.{State}
 use Rattle.diagrams.specs.declared.State.the-variants.{Init, Error}
 use Rattle.receiving.specs.Machine.{Tested}
-use Rattle.receiving.specs.Receive.{howMany, badFor, countsOf, Judged, decodes, errs, begins, replaces, handedOf}
+use Rattle.receiving.specs.Receive.{badFor, countsOf, Judged, decodes, errs, begins, replaces, handedOf}
 use Rattle.receiving.specs.Parts.{noCounts, plus, noneHanded, plusHanded}
 use Rattle.receiving.specs.Counted.{reasoned, counted, Within, handOut, decodedOut, replacedOut, HandedWithin}
 use Rattle.receiving.specs.declared.Counts.{Counts}
@@ -116,10 +118,6 @@ within-none n =
     record { tested = zero-le; slips = zero-le; headers = zero-le; types = zero-le; codes = zero-le; sets = zero-le }
 
 -- a block adds at most one to each
-one-le : (b : Bool) → cond b 1 0 ≤ 1
-one-le true = omega arith
-one-le false = omega arith
-
 pub within-next : (c : Counts) (t : Tested) (n m : ℕ) → Within n c → n < m → Within m (counted c t)
 unfolding counted reasoned
 within-next c t n m w l =
@@ -213,11 +211,6 @@ pub handed-wide : (h : Handed) (n m : ℕ) → HandedWithin n h → n ≤ m → 
 handed-wide h n m w l = record { begun = omega (arith, w .begun); replaced = omega (arith, w .replaced) }
 
 -- ---- no count is above the number of those counted
-
-how-few : {A : Type 0} (test : A → Bool) (xs : List A) → howMany test xs ≤ length xs
-unfolding howMany
-how-few test [] = zero-le
-how-few test (x ∷ xs) = omega (arith, one-le (test x), how-few test xs)
 
 pub counts-few : (ts : List Tested) (n : ℕ) → length ts ≤ n → Within n (countsOf ts)
 unfolding countsOf

@@ -13,3 +13,4 @@ pub mod Stretching
 pub mod Verdict
 pub mod Cases
 pub mod Demand1
+pub mod Tens

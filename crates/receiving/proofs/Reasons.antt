@@ -17,8 +17,9 @@ use Rattle.block.proofs.Classes.{kind-of-class}
 use Rattle.diagrams.specs.Diagram.{diagramOf, follows}
 use Rattle.diagrams.specs.declared.State.{State}
 use Rattle.diagrams.specs.declared.State.the-variants.{Init}
+use Rattle.bits.specs.Lists.{howMany}
 use Rattle.receiving.specs.Machine.{Tested, Feed, at, headerOf, payloadOf, fills, afterBlock, feed, filled, run, linkFresh, linkOf, testedOf}
-use Rattle.receiving.specs.Receive.{letsEnd, ends, stateOf, answerIn, judge, answers, howMany, badFor, countsOf, runOf, vectorsOf}
+use Rattle.receiving.specs.Receive.{letsEnd, ends, stateOf, answerIn, judge, answers, badFor, countsOf, runOf, vectorsOf}
 use Rattle.receiving.specs.Answer.{summaryOf}
 use Rattle.receiving.specs.declared.Link.{Link}
 use Rattle.receiving.specs.Reasons.{Taken, takenAt, takenFrom, takenBlocks, takenKind, takenVector, takenOn, badBlocks, endsByKind, stateByKind, answersByKind}

@@ -1,10 +1,11 @@
 -- Document 01, 'Diagrams', Receive: the diagram over the tested blocks, with a look at the next.
-use Prim.Native.Nat.{ℕ, _+_}
+use Prim.Native.Nat.{ℕ}
 use mathlib.Core.Bool.{Bool, true, false, cond, _&&_}
 use mathlib.Core.List.{List, [], _∷_, map, flatten}
 use lib.ListN.{length}
 use lib.Dec.{eqb}
 use Rattle.bits.specs.Bits.{lineBits}
+use Rattle.bits.specs.Lists.{howMany}
 use Rattle.block.specs.declared.Edition.{Edition}
 use Rattle.block.specs.Block.{errorVector, localFaultVector, isS, kindIn, classNumber}
 use Rattle.block.specs.declared.Reason.{Reason}
@@ -80,11 +81,6 @@ abbrev pub judgedAlone : List Judged → Bool
 judgedAlone js = lastIs (λ j. isTerminate (j .state)) js
 
 -- ---- the counts
-
--- how many elements of a list pass a test
-unfoldable pub howMany : {A : Type 0} → (A → Bool) → List A → ℕ
-howMany test [] = 0
-howMany test (x ∷ xs) = cond (test x) 1 0 + howMany test xs
 
 -- whether a block of this class is bad for this reason
 abbrev pub badFor : Reason → Class → Bool

@@ -8,7 +8,7 @@ use lib.Dec.{eqb}
 use Rattle.refusals.specs.Number.{numberOf}
 use Rattle.refusals.specs.First.{Check, Verdict, accepted, refused, first, byVerdict}
 use Rattle.refusals.specs.declared.Refusal.{Refusal}
-use Rattle.refusals.specs.declared.Refusal.the-variants.{TooMuch, NotGroups, StartState, Room, ControlByte, Cut, LongBody, RecordKind, Closed, BadState, UnknownEdition}
+use Rattle.refusals.specs.declared.Refusal.the-variants.{TooMuch, NotGroups, StartState, Room, ControlByte, Cut, LongBody, RecordKind, Closed, BadState, Range, NoSuchVector, UnknownEdition}
 
 -- No two refusals have one number: the number tells the refusal.
 refusalOf : ℕ → Refusal
@@ -22,7 +22,9 @@ refusalOf n =
     (cond (eqb n 7) LongBody
     (cond (eqb n 8) RecordKind
     (cond (eqb n 9) Closed
-    (cond (eqb n 10) BadState UnknownEdition)))))))))
+    (cond (eqb n 10) BadState
+    (cond (eqb n 11) Range
+    (cond (eqb n 12) NoSuchVector UnknownEdition)))))))))))
 
 back : (r : Refusal) → refusalOf (numberOf r) ≡ r
 unfolding refusalOf
@@ -36,6 +38,8 @@ back LongBody = refl
 back RecordKind = refl
 back Closed = refl
 back BadState = refl
+back Range = refl
+back NoSuchVector = refl
 back UnknownEdition = refl
 
 pub number-injective : (a b : Refusal) → numberOf a ≡ numberOf b → a ≡ b
@@ -53,6 +57,8 @@ number-small LongBody = omega arith
 number-small RecordKind = omega arith
 number-small Closed = omega arith
 number-small BadState = omega arith
+number-small Range = omega arith
+number-small NoSuchVector = omega arith
 number-small UnknownEdition = omega arith
 
 -- By the two cases of a test.
@@ -69,12 +75,26 @@ passed c cs e = go (c .applies) refl e
     go true h q = absurd (let z : _≡_ {A = ℕ} 0 1 = cc in omega arith)
     go false h q = (h, q)
 
--- One check more is looked at where no other applies.
-more-by : (b : Bool) (n p : ℕ) (u v last : Verdict) → u ≡ byVerdict v last refused → cond b (refused n p) u ≡ byVerdict (cond b (refused n p) v) last refused
-more-by true n p u v last e = refl
-more-by false n p u v last e = e
-
-pub one-more : (cs : List Check) (c : Check) → first (cs ++ c ∷ []) ≡ byVerdict (first cs) (cond (c .applies) (refused (c .number) (c .place)) accepted) refused
+-- A check that applies is given, one that does not is passed.
+pub applied : (c : Check) (cs : List Check) → c .applies ≡ true → first (c ∷ cs) ≡ refused (c .number) (c .place)
 unfolding first
-one-more [] c = refl
-one-more (d ∷ cs) c = more-by (d .applies) (d .number) (d .place) _ (first cs) _ (one-more cs c)
+applied c cs e = rw e
+
+pub skipped : (c : Check) (cs : List Check) → c .applies ≡ false → first (c ∷ cs) ≡ first cs
+unfolding first
+skipped c cs e = rw e
+
+-- none is left
+pub accepts : first [] ≡ accepted
+unfolding first
+accepts = refl
+
+-- Checks behind others are looked at where none of those applies.
+behind-by : (b : Bool) (n p : ℕ) (u v last : Verdict) → u ≡ byVerdict v last refused → cond b (refused n p) u ≡ byVerdict (cond b (refused n p) v) last refused
+behind-by true n p u v last e = refl
+behind-by false n p u v last e = e
+
+pub first-append : (cs ds : List Check) → first (cs ++ ds) ≡ byVerdict (first cs) (first ds) refused
+unfolding first
+first-append [] ds = refl
+first-append (c ∷ cs) ds = behind-by (c .applies) (c .number) (c .place) _ (first cs) (first ds) (first-append cs ds)

@@ -44,7 +44,7 @@ outcome cs came success refusal e = go (first cs) refl e
     go (refused n p) q e = refuses n p (first-applies cs n p q) e
 
 -- the answer and the room, each by the same verdict
-both : {A B : Type 0} (v : Verdict) (a : A) (b : B) (f : ℕ → ℕ → A) (g : ℕ → ℕ → B)
+pub both : {A B : Type 0} (v : Verdict) (a : A) (b : B) (f : ℕ → ℕ → A) (g : ℕ → ℕ → B)
     → _≡_ {A = A × B} (byVerdict v a f, byVerdict v b g) (byVerdict v (a, b) (λ n p. (f n p, g n p)))
 both accepted a b f g = refl
 both (refused n p) a b f g = refl

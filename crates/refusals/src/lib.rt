@@ -24,6 +24,10 @@ pub enum Refusal {
     Closed,
     // a state with numbers that no line leads to
     BadState,
+    // a range that is none, or an index of the wrong length
+    Range,
+    // no such vector
+    NoSuchVector,
     // an edition that is neither old nor new
     UnknownEdition,
 }
@@ -43,6 +47,8 @@ pub fn number(r: Refusal) -> u64
         Refusal::RecordKind => 8,
         Refusal::Closed => 9,
         Refusal::BadState => 10,
+        Refusal::Range => 11,
+        Refusal::NoSuchVector => 12,
         Refusal::UnknownEdition => 13,
     }
 }

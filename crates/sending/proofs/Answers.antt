@@ -9,7 +9,8 @@ use Rattle.diagrams.specs.Diagram.{stateNumber}
 use Rattle.diagrams.specs.declared.State.the-variants.{Init}
 use Rattle.scrambler.specs.Scrambler.{mirror}
 use Rattle.block.specs.declared.Edition.{Edition}
-use Rattle.transmit.specs.Send.{vectorList, blocksFor, sentLine, stateAfter, replaced, historyOver}
+use Rattle.block.specs.Block.{vectorList}
+use Rattle.transmit.specs.Send.{blocksFor, sentLine, stateAfter, replaced, historyOver}
 use Rattle.sending.specs.Answer.{sent, sentFor}
 use Rattle.transmit.specs.declared.Sender.{Sender}
 use Rattle.sending.specs.Whole.{SentInto}

@@ -6,9 +6,8 @@ use native.Mathlib.Omega.{arith}
 use native.Mathlib.Nat.{zero-add}
 use lib.ListN.{length, List·getD-eq-default}
 use Rattle.bits.proofs.Laws.{by-lt}
-use Rattle.control_bytes.specs.Control.{highControl}
+use Rattle.control_bytes.specs.Control.{highControl, Low}
 use Rattle.control_bytes.proofs.High.{low-word}
-use Rattle.groups.specs.Four.{Low}
 
 pub low : (bytes : List ℕ) (high : ℕ) → length bytes % 40 ≡ 0 → high ≡ highControl bytes → length bytes ≤ high → Low bytes
 unfolding highControl

@@ -9,13 +9,15 @@ use Rattle.bits.specs.Bits.{streamBit, cut}
 use Rattle.bits.proofs.Laws.{length-cut}
 use Rattle.bits.proofs.Lists.{cut-join}
 use Rattle.block.specs.declared.Edition.{Edition}
-use Rattle.transmit.specs.Send.{vectorsIn, sentBlocks, lineWords}
+use Rattle.block.specs.Block.{vectorsIn}
+use Rattle.block.proofs.Vectors.{vectors-add, length-vectors}
+use Rattle.transmit.specs.Send.{sentBlocks, lineWords}
 use Rattle.transmit.specs.declared.Sender.{Sender}
 use Rattle.groups.specs.declared.Group.{Group}
 use Rattle.transmit.specs.Steps.{SentAs}
 use Rattle.groups.specs.Four.{groupWords, SentFour}
 use Rattle.sending.specs.Whole.{wordsFor, SentInto}
-use Rattle.transmit.proofs.Laws.{vectors-add, length-vectors, sends-none, sends-join, sends-few, sends-history, sends-length}
+use Rattle.transmit.proofs.Laws.{sends-none, sends-join, sends-few, sends-history, sends-length}
 
 -- the line of words in groups of four
 abbrev pub lineOf : List ℕ → ℕ → List ℕ

@@ -9,11 +9,11 @@ use Rattle.refusals.specs.Number.{numberOf}
 use Rattle.refusals.specs.First.{Check, check, first, byVerdict}
 use Rattle.scrambler.specs.Scrambler.{mirror}
 use Rattle.block.specs.declared.Edition.{Edition}
-use Rattle.block.specs.Block.{editionOf, editionCheck}
+use Rattle.block.specs.Block.{editionOf, editionCheck, vectorList}
 use Rattle.control_bytes.specs.Control.{controlCheck}
 use Rattle.diagrams.specs.Diagram.{stateNumber}
 use Rattle.diagrams.specs.declared.State.the-variants.{Init}
-use Rattle.transmit.specs.Send.{vectorList, stateAfter, replaced, historyOver, blocksFor, sentLine}
+use Rattle.transmit.specs.Send.{stateAfter, replaced, historyOver, blocksFor, sentLine}
 use Rattle.sending.specs.declared.Sent.{Sent}
 use Rattle.sending.specs.declared.Sent.the-variants.{Done, Refused}
 

@@ -5,7 +5,8 @@ use mathlib.Core.List.{List, _++_}
 use lib.ListN.{length, drop}
 use Rattle.bits.specs.Bits.{streamBit, cut}
 use Rattle.block.specs.declared.Edition.{Edition}
-use Rattle.transmit.specs.Send.{vectorList, sentBlocks, lineWords}
+use Rattle.block.specs.Block.{vectorList}
+use Rattle.transmit.specs.Send.{sentBlocks, lineWords}
 use Rattle.transmit.specs.declared.Sender.{Sender}
 use Rattle.transmit.specs.Steps.{SentAs}
 

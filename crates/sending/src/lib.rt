@@ -14,7 +14,7 @@ ghost use mathlib.Core.List.{_++_};
 ghost use Prim.Native.Nat.{_*_, _/_, _%_, _^_, _<_, _≤_};
 ghost use lib.ListN.{length, drop};
 ghost use Rattle.transmit.specs.Send.{sentLine};
-ghost use Rattle.groups.specs.Four.{Low};
+ghost use Rattle.control_bytes.specs.Control.{Low};
 ghost use Rattle.sending.specs.Answer.{sent, sentFor, Sends};
 ghost use Rattle.sending.specs.Whole.{SentInto};
 

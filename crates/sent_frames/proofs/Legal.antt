@@ -12,11 +12,10 @@ use Rattle.block.specs.declared.Edition.{Edition}
 use Rattle.block.specs.declared.Edition.the-variants.{Old, New}
 use Rattle.block.specs.declared.Kind.{Kind}
 use Rattle.block.specs.declared.Kind.the-variants.{D, C, S, T, E, LI}
-use Rattle.block.specs.Block.{editionOf, Format, dataBlock, controlBlocks, isD, isS, isT, same, lowPowerVector, lowPower, kindFor, flagOf, laneOf, carries, carrier, vectorKind}
+use Rattle.block.specs.Block.{editionOf, Format, dataBlock, controlBlocks, isD, isS, isT, same, lowPowerVector, lowPower, kindFor, flagOf, laneOf, carries, carrier, vectorKind, vectorsIn}
 use Rattle.diagrams.specs.Diagram.{afterIdle, afterData, afterError, afterLow, diagramOf, transmitOf}
 use Rattle.diagrams.specs.declared.State.{State}
 use Rattle.diagrams.specs.declared.State.the-variants.{Init, Control, Data, Terminate, Error, LowPower}
-use Rattle.transmit.specs.Send.{vectorsIn}
 use Rattle.demands.specs.Words.{inError, legalFrom}
 use Rattle.demands.proofs.Accepted.{ten-each}
 use Rattle.frames.specs.Frames.{Character, charactersOf, quiet, starts, isGood, afterStart, Frame, wordsIn, framesFrom}

@@ -7,14 +7,13 @@ use native.Mathlib.Omega.{arith}
 use lib.ListN.{length, take, drop, replicate, length-append, length-drop}
 use lib.Seq.{drop-at}
 use Rattle.block.specs.declared.Edition.{Edition}
-use Rattle.block.specs.Block.{editionOf, localFaultVector}
+use Rattle.block.specs.Block.{editionOf, localFaultVector, vectorsIn}
 use Rattle.block.proofs.Carried.{kind-of-fault}
-use Rattle.transmit.specs.Send.{vectorsIn}
-use Rattle.transmit.proofs.Laws.{length-vectors}
 use Rattle.demands.specs.Words.{controlVector, controlVectors}
 use Rattle.demands.specs.Demand2.{faults}
 use Rattle.demands.proofs.Demand2.{demand-2}
 use Rattle.frames.specs.Frames.{wordsIn, wordList, starts, framesOf}
+use Rattle.block.proofs.Vectors.{length-vectors, take-vectors}
 use Rattle.sent_frames.specs.SentFrames.{FramesReturn}
 use Rattle.sent_frames.proofs.Words.{NoStarts, passed-both, words-append, length-words, control-none}
 
@@ -23,13 +22,6 @@ faults-control : (ed : Edition) (n : ℕ) (rest : List ℕ) → controlVectors e
 unfolding controlVectors controlVector vectorsIn flatten
 faults-control ed zero rest = refl
 faults-control ed (suc n) rest = rw (kind-of-fault ed) (faults-control ed n rest)
-
--- the first n of k vectors
-take-vectors : (n k : ℕ) (bytes : List ℕ) → n ≤ k → take n (vectorsIn k bytes) ≡ vectorsIn n bytes
-unfolding vectorsIn
-take-vectors zero k bytes l = refl
-take-vectors (suc n) zero bytes l = absurd (omega arith)
-take-vectors (suc n) (suc k) bytes l = ap (λ (vs : List (List ℕ)). take 10 bytes ∷ vs) (take-vectors n k (drop 10 bytes) (omega arith))
 
 none-split : (xs : List (List ℕ)) (y : List ℕ) (ys : List (List ℕ)) → NoStarts (xs ++ y ∷ ys) → NoStarts xs × (starts y ≡ false)
 none-split [] y ys n = (tt, n .0)

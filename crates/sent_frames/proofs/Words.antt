@@ -7,10 +7,10 @@ use native.Mathlib.Omega.{arith}
 use lib.ListN.{length, take, drop}
 use lib.Seq.{drop-drop}
 use Rattle.block.specs.declared.Edition.{Edition}
-use Rattle.transmit.specs.Send.{vectorsIn}
 use Rattle.demands.specs.Words.{controlVector, controlVectors}
 use Rattle.frames.specs.Frames.{wordsIn, quiet, starts, upToEnd, afterStart, framesFrom}
 use Rattle.frames.proofs.Quiet.{and-both}
+use Rattle.block.specs.Block.{vectorsIn}
 use Rattle.sent_frames.proofs.Control.{first-none, second-none}
 
 -- no word has a Start

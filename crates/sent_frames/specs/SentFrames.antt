@@ -3,8 +3,8 @@ use Prim.Native.Nat.{ℕ}
 use mathlib.Core.Path.{_≡_}
 use mathlib.Core.Bool.{true, _||_}
 use mathlib.Core.List.{List, [], _∷_}
-use Rattle.block.specs.Block.{editionOf}
-use Rattle.transmit.specs.Send.{sentLine, vectorList}
+use Rattle.block.specs.Block.{editionOf, vectorList}
+use Rattle.transmit.specs.Send.{sentLine}
 use Rattle.receiving.specs.Receive.{receivedVectors}
 use Rattle.demands.specs.Words.{SendAccepts, legal}
 use Rattle.demands.specs.Demand2.{Returnable}

@@ -1,11 +1,10 @@
 -- Laws of sending over plain lists. Assumes nothing.
-use Prim.Native.Nat.{ℕ, zero, suc, _+_, _*_, _^_, _≤_, _<_}
+use Prim.Native.Nat.{ℕ, suc, _+_, _^_, _≤_, _<_}
 use mathlib.Core.Path.{_≡_, refl, sym, ap, ap₂, _∙_, subst}
 use mathlib.Core.List.{List, [], _∷_, _++_}
 use native.Mathlib.Nat.{zero-add, add-zero, add-assoc}
 use native.Mathlib.Omega.{arith}
-use lib.ListN.{length, take, drop}
-use lib.Seq.{drop-drop}
+use lib.ListN.{length}
 use Rattle.diagrams.specs.Diagram.{transmitOf}
 use Rattle.block.specs.declared.Edition.{Edition}
 use Rattle.diagrams.specs.declared.State.{State}
@@ -15,27 +14,11 @@ use Rattle.scrambler.proofs.Laws.{historyAfter-lt}
 use Rattle.line.specs.BlockNumber.{blockNumber}
 use Rattle.line.specs.declared.Block.{Block}
 use Rattle.block.specs.Block.{vectorKind}
-use Rattle.transmit.specs.Send.{vectorsIn, blockIn, replacedIn, scrambledBlock, stateAfter, replaced, sentBlocks, lineWords, historyOver}
+use Rattle.transmit.specs.Send.{blockIn, replacedIn, scrambledBlock, stateAfter, replaced, sentBlocks, lineWords, historyOver}
 use Rattle.transmit.specs.declared.Sender.{Sender}
 use Rattle.transmit.specs.Steps.{SentAs}
 
 -- ---- a list of vectors in two parts
-
-pub vectors-add : (j k : ℕ) (bytes : List ℕ) → vectorsIn (j + k) bytes ≡ vectorsIn j bytes ++ vectorsIn k (drop (10 * j) bytes)
-unfolding vectorsIn
-vectors-add zero k bytes = ap (λ (n : ℕ). vectorsIn n bytes) (zero-add k)
-vectors-add (suc j) k bytes =
-    let e : suc j + k ≡ suc (j + k) = omega arith in
-    let d : 10 + 10 * j ≡ 10 * suc j = omega arith in
-    ap (λ (n : ℕ). vectorsIn n bytes) e
-    ∙ ap (λ (vs : List (List ℕ)). take 10 bytes ∷ vs)
-    (vectors-add j k (drop 10 bytes)
-    ∙ ap (λ (l : List ℕ). vectorsIn j (drop 10 bytes) ++ vectorsIn k l) (drop-drop (10 * j) 10 bytes ∙ ap (λ (n : ℕ). drop n bytes) d))
-
-pub length-vectors : (k : ℕ) (bytes : List ℕ) → length (vectorsIn k bytes) ≡ k
-unfolding vectorsIn
-length-vectors zero bytes = refl
-length-vectors (suc k) bytes = ap suc (length-vectors k (drop 10 bytes))
 
 words-append : (h : ℕ) (xs ys : List Block) → lineWords h (xs ++ ys) ≡ lineWords h xs ++ lineWords (historyOver h xs) ys
 unfolding lineWords historyOver

@@ -1,21 +1,16 @@
 -- Document 01, 'Diagrams' (Transmit), 'Scrambler' and 'Vectors, words and line bits': the line of a list of vectors.
-use Prim.Native.Nat.{ℕ, zero, suc, _+_, _*_, _/_}
+use Prim.Native.Nat.{ℕ, _+_, _*_, _/_}
 use mathlib.Core.List.{List, [], _∷_}
-use lib.ListN.{length, take, drop}
+use lib.ListN.{length}
 use Rattle.bits.specs.Bits.{streamBit, cut}
 use Rattle.scrambler.specs.Scrambler.{scrambled, historyAfter, mirror}
 use Rattle.line.specs.BlockNumber.{blockNumber}
 use Rattle.line.specs.declared.Block.{Block}
 use Rattle.block.specs.declared.Edition.{Edition}
-use Rattle.block.specs.Block.{Carrier, block, none, carrier, vectorKind, errorPayload}
+use Rattle.block.specs.Block.{vectorList, Carrier, block, none, carrier, vectorKind, errorPayload}
 use Rattle.diagrams.specs.Diagram.{transmitOf}
 use Rattle.diagrams.specs.declared.State.{State}
 use Rattle.diagrams.specs.declared.State.the-variants.{Init, Control, Data, Terminate, Error, LowPower}
-
--- "A vector is two words, ten bytes": the first k vectors of a list of bytes
-unfoldable pub vectorsIn : ℕ → List ℕ → List (List ℕ)
-vectorsIn zero bytes = []
-vectorsIn (suc k) bytes = take 10 bytes ∷ vectorsIn k (drop 10 bytes)
 
 -- ---- one vector
 
@@ -85,10 +80,6 @@ historyOver h [] = h
 historyOver h (b ∷ bs) = historyOver (historyAfter (b .payload) h) bs
 
 -- ---- vector bytes and a start state
-
--- the vectors of a list of bytes
-abbrev pub vectorList : List ℕ → List (List ℕ)
-vectorList bytes = vectorsIn (length bytes / 10) bytes
 
 module _ (ed : Edition) where
   -- the blocks sent for vector bytes: "Transmit, from INIT"

@@ -1,105 +1,69 @@
 -- `frame_list::list` meets its contract. Assumes nothing.
-use Prim.Native.Nat.{ℕ, _*_}
-use mathlib.Core.Path.{sym, ap}
-use lib.ListN.{length}
-use denote.Ref.{now}
+use Prim.Native.Nat.{_*_}
+use mathlib.Core.Path.{sym, ap, _∙_}
 use native.Mathlib.Omega.{arith}
-use borrow.Author.Tests.{le-ltb, lt-ltb, ltb-false, eq-eqb, ne-eqb}
-use Rattle.refusals.specs.First.{first}
-use Rattle.frame_list.specs.Answer.{framesNumber, framesListed, refused, listChecks, listAnswer, listAfter}
-use Rattle.frame_list.proofs.Answers.{counted-small, counted-room}
+use denote.Ref.{now}
+use lib.ListN.{length}
+use borrow.Author.Tests.{ltb-false}
+use Rattle.vector_checks.proofs.Laws.{short}
+use Rattle.vector_checks.specs.Checks.{verdictOf}
+use Rattle.frame_list.proofs.Answers.{counted-small, counted-room, bad-vectors, small-list, list-done}
+use Rattle.frame_list.specs.Answer.{framesNumber, framesListed}
 use borrow.Author.Needs.{needs}
 use Rattle.frame_list.proofs.list.Statement.{statement}
 use Rattle.frame_list.proofs.list.Tie as tie
 
-returns : tie.Need-returns
-unfolding listAnswer listAfter listChecks first
-returns c =
-    let a = lt-ltb _ _ (c .if1 .taken) in
-    (simp a, simp a)
+check-vectors-requires : tie.Need-check-vectors-requires
+check-vectors-requires c κs = search needs
 
-returns-2 : tie.Need-returns-2
-unfolding listAnswer listAfter listChecks first
-returns-2 c =
-    let a = le-ltb _ _ (c .before .if1 .left) in
-    let b = ne-eqb _ _ (c .if2 .taken) in
-    (simp (a, b), simp (a, b))
+enum-known-why : tie.Need-enum-known-why
+enum-known-why c = search needs
 
-first-high-requires : tie.Need-first-high-requires
-first-high-requires c κs = search needs
-
-returns-3 : tie.Need-returns-3
-unfolding listAnswer listAfter listChecks first
-returns-3 c =
-    let a = le-ltb _ _ (c .before .before .before .if1 .left) in
-    let b = eq-eqb _ _ (c .before .before .if2 .left) in
-    let h = sym (c .before .first-high .ensures) in
-    let f = lt-ltb _ _ (c .if3 .taken) in
-    (simp (a, b, h, f), simp (a, b, h, f))
+enum-told : tie.Need-enum-told
+enum-told c = search needs
 
 counted-requires : tie.Need-counted-requires
 counted-requires c κs = search needs
 
-mul-if4 : tie.Need-mul-if4
-mul-if4 c = omega arith
+mul-if1 : tie.Need-mul-if1
+mul-if1 c = let a = sym (c .before .before .before .check-vectors .ensures) ∙ ap verdictOf (c .before .enum-told .given .1) in omega (arith, short (now (c .before .before .before .before .before .before .args .vectors)) a, c .counted .ensures .1)
 
-returns-4 : tie.Need-returns-4
-unfolding listAnswer listAfter listChecks first
-returns-4 c =
-    let args = c .before .before .before .before .before .before .before .before .args in
-    let if1 = c .before .before .before .before .before .if1 in
-    let if2 = c .before .before .before .before .if2 in
-    let first-high = c .before .before .before .first-high in
-    let if3 = c .before .before .if3 in
-    let counted = c .before .counted in
-    let a = le-ltb _ _ (if1 .left) in
-    let b = eq-eqb _ _ (if2 .left) in
-    let h = sym (first-high .ensures) in
-    let f = le-ltb _ _ (if3 .left) in
-    let n = counted-small (now (args .vectors)) (length (now (args .list))) (counted .result) (counted .ensures .0) (c .if4 .taken) in
-    (simp (a, b, h, f, n .1) (ap (λ (i : ℕ). refused 4 i) (n .0)), simp (a, b, h, f, n .1))
+returns : tie.Need-returns
+returns c =
+    let a = sym (ap verdictOf (c .before .before .enum-told .given .1)) ∙ c .before .before .before .before .check-vectors .ensures in
+    let n = counted-small (now (c .before .before .before .before .before .before .before .args .vectors)) (length (now (c .before .before .before .before .before .before .before .args .list))) (c .before .counted .result) (c .before .counted .ensures .0) (c .if1 .taken) in
+    small-list (now (c .before .before .before .before .before .before .before .args .vectors)) (now (c .before .before .before .before .before .before .before .args .list)) a (c .before .counted .result) (n .0) (n .1)
 
 list-all-requires : tie.Need-list-all-requires
 list-all-requires c κs =
-    let args = c .before .before .before .before .before .before .before .before .before .args in
-    let if1 = c .before .before .before .before .before .before .if1 in
-    let counted = c .before .before .counted in
-    let if4 = c .before .if4 in
-    let r = counted-room (now (args .vectors)) (length (now (args .list))) (counted .result) (counted .ensures .0) (if4 .left) in
-    (if1 .left, ltb-false (length (now (args .list))) (12 * framesNumber (now (args .vectors))) r)
+    let a = sym (c .before .before .before .before .before .check-vectors .ensures) ∙ ap verdictOf (c .before .before .before .enum-told .given .1) in
+    let r = counted-room (now (c .before .before .before .before .before .before .before .before .args .vectors)) (length (now (c .before .before .before .before .before .before .before .before .args .list))) (c .before .before .counted .result) (c .before .before .counted .ensures .0) (c .before .if1 .left) in
+    (short (now (c .before .before .before .before .before .before .before .before .args .vectors)) a, ltb-false (length (now (c .before .before .before .before .before .before .before .before .args .list))) (12 * framesNumber (now (c .before .before .before .before .before .before .before .before .args .vectors))) r)
+
+returns-2 : tie.Need-returns-2
+returns-2 c = bad-vectors (now (c .before .before .before .before .before .before .args .vectors)) (now (c .before .before .before .before .before .before .args .list)) (c .before .why .given .0 .0) (c .before .why .given .0 .1 .0) (sym (ap verdictOf (c .before .why .given .1)) ∙ c .before .before .before .check-vectors .ensures)
 
 same-length : tie.Need-same-length
 same-length c = search needs
 
-returns-5 : tie.Need-returns-5
-unfolding listAnswer listAfter listChecks first
-returns-5 c =
-    let args = c .before .before .before .before .before .before .before .before .before .before .before .before .args in
-    let if1 = c .before .before .before .before .before .before .before .before .before .if1 in
-    let if2 = c .before .before .before .before .before .before .before .before .if2 in
-    let first-high = c .before .before .before .before .before .before .before .first-high in
-    let if3 = c .before .before .before .before .before .before .if3 in
-    let counted = c .before .before .before .before .before .counted in
-    let if4 = c .before .before .before .before .if4 in
-    let list-all = c .before .before .list-all in
-    let a = le-ltb _ _ (if1 .left) in
-    let b = eq-eqb _ _ (if2 .left) in
-    let h = sym (first-high .ensures) in
-    let f = le-ltb _ _ (if3 .left) in
-    let r = counted-room (now (args .vectors)) (length (now (args .list))) (counted .result) (counted .ensures .0) (if4 .left) in
-    (simp (a, b, h, f, r) (ap framesListed (list-all .ensures .0)), simp (a, b, h, f, r) (list-all .ensures .1))
+returns-3 : tie.Need-returns-3
+returns-3 c =
+    let a = sym (ap verdictOf (c .before .before .before .before .before .before .enum-told .given .1)) ∙ c .before .before .before .before .before .before .before .before .check-vectors .ensures in
+    let r = counted-room (now (c .before .before .before .before .before .before .before .before .before .before .before .args .vectors)) (length (now (c .before .before .before .before .before .before .before .before .before .before .before .args .list))) (c .before .before .before .before .before .counted .result) (c .before .before .before .before .before .counted .ensures .0) (c .before .before .before .before .if1 .left) in
+    let d = list-done (now (c .before .before .before .before .before .before .before .before .before .before .before .args .vectors)) (now (c .before .before .before .before .before .before .before .before .before .before .before .args .list)) a r in
+    (ap framesListed (c .before .before .list-all .ensures .0) ∙ d .0, c .before .before .list-all .ensures .1 ∙ d .1)
 
 pub list-spec : {M : Type 1} → statement M
 list-spec =
     tie.close
     (tie.spec
-    returns
-    returns-2
-    first-high-requires
-    returns-3
+    check-vectors-requires
+    enum-known-why
+    enum-told
     counted-requires
-    mul-if4
-    returns-4
+    mul-if1
+    returns
     list-all-requires
+    returns-2
     same-length
-    returns-5)
+    returns-3)

@@ -4,8 +4,8 @@ use native.Mathlib.Omega.{arith}
 use denote.Ref.{now}
 use Rattle.block.specs.Block.{carrier}
 use Rattle.block.specs.Coded.{codedOf}
-use Rattle.groups.proofs.Vectors.{vector-read}
 use borrow.Author.Needs.{needs}
+use Rattle.encoding.proofs.Vectors.{vector-read}
 use Rattle.groups.proofs.vector_at.Statement.{statement}
 use Rattle.groups.proofs.vector_at.Tie as tie
 

@@ -1,8 +1,9 @@
-use borrow.Author.Needs.{needs}
+-- `holzmotte_records::holzmotte_read_record` meets its contract. Assumes nothing.
 use mathlib.Core.Path.{sym, ap, _∙_}
 use Rattle.records.specs.Record.{answerOf}
 use Rattle.refusals.proofs.Laws.{number-small}
 use Rattle.holzmotte_records.proofs.Through.{reads-whole, reads-end, reads-refused}
+use borrow.Author.Needs.{needs}
 use Rattle.holzmotte_records.proofs.holzmotte_read_record.Statement.{statement}
 use Rattle.holzmotte_records.proofs.holzmotte_read_record.Tie as tie
 
@@ -12,17 +13,26 @@ read-requires c κs = search needs
 enum-known-kind : tie.Need-enum-known-kind
 enum-known-kind c = search needs
 
+slice-aggregate-told : tie.Need-slice-aggregate-told
+slice-aggregate-told c = search needs
+
 told-requires : tie.Need-told-requires
 told-requires c κs = search needs
 
 enum-told : tie.Need-enum-told
 enum-told c = search needs
 
+slice-aggregate-told-2 : tie.Need-slice-aggregate-told-2
+slice-aggregate-told-2 c = search needs
+
 told-requires-2 : tie.Need-told-requires-2
 told-requires-2 c κs = search needs
 
 enum-known-why : tie.Need-enum-known-why
 enum-known-why c = search needs
+
+slice-aggregate-told-3 : tie.Need-slice-aggregate-told-3
+slice-aggregate-told-3 c = search needs
 
 told-requires-3 : tie.Need-told-requires-3
 told-requires-3 c κs = search needs
@@ -56,10 +66,13 @@ holzmotte-read-record-spec =
     (tie.spec
     read-requires
     enum-known-kind
+    slice-aggregate-told
     told-requires
     enum-told
+    slice-aggregate-told-2
     told-requires-2
     enum-known-why
+    slice-aggregate-told-3
     told-requires-3
     refusal-requires
     same-length

@@ -1,0 +1,3 @@
+pub mod Through
+pub mod Demand1
+pub mod Unique
