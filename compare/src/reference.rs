@@ -6,6 +6,7 @@ pub mod diagrams;
 pub mod edition;
 pub mod fault;
 pub mod frames;
+pub mod index;
 pub mod kept;
 pub mod receiving;
 pub mod records;
