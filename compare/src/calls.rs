@@ -74,6 +74,17 @@ pub struct Tally {
     pub good_frames: u64,
     pub open_frames: u64,
     pub small_lists: u64,
+    /// Indexes that were built, the entries in them, and the vectors that are of kind S in the new edition alone.
+    pub indexes: u64,
+    pub entries: u64,
+    pub new_starts: u64,
+    /// Counts by an index, and those of them that were held to 0 or to b - a.
+    pub counts: u64,
+    pub held_counts: u64,
+    /// Error vectors that were found by an index, such as there were none of, and the most entries that one search read.
+    pub found: u64,
+    pub not_found: u64,
+    pub most_read: u64,
 }
 
 impl Tally {
@@ -102,6 +113,14 @@ impl Tally {
         self.good_frames += other.good_frames;
         self.open_frames += other.open_frames;
         self.small_lists += other.small_lists;
+        self.indexes += other.indexes;
+        self.entries += other.entries;
+        self.new_starts += other.new_starts;
+        self.counts += other.counts;
+        self.held_counts += other.held_counts;
+        self.found += other.found;
+        self.not_found += other.not_found;
+        self.most_read = self.most_read.max(other.most_read);
     }
 
     fn add_faults(&mut self, faults: [u64; 4]) {

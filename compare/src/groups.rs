@@ -4,6 +4,7 @@ mod bursts;
 mod damage;
 mod faults;
 mod frames;
+mod index;
 mod lists;
 mod records;
 mod refusals;
@@ -17,7 +18,7 @@ pub struct Group {
     pub run: fn(&mut Calls) -> Outcome,
 }
 
-pub const GROUPS: [Group; 19] = [
+pub const GROUPS: [Group; 20] = [
     Group { name: "types", says: "every header and type byte in lock, edge and random payloads", run: blocks::types },
     Group { name: "octets", says: "all 256 octets in each character position of each format", run: blocks::octets },
     Group { name: "codes", says: "every code in each field of each format, unused bits set", run: blocks::codes },
@@ -45,6 +46,7 @@ pub const GROUPS: [Group; 19] = [
     Group { name: "states", says: "states of any numbers, judged and gone on from", run: states::states },
     Group { name: "records", says: "capture records read at any place, written and read back", run: records::records },
     Group { name: "frames", says: "words of every sort around one another, and what is received", run: frames::frames },
+    Group { name: "index", says: "counts and error vectors by an index, built and foreign", run: index::index },
 ];
 
 /// The bits of a number: which faults a call has.

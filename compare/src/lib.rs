@@ -4,6 +4,7 @@ pub mod calls;
 pub mod captures;
 pub mod frames;
 pub mod groups;
+pub mod index;
 pub mod library;
 pub mod lines;
 pub mod lists;

@@ -64,6 +64,26 @@ extern "C" {
         summary: *mut u8,
         summary_len: usize,
     ) -> u64;
+    fn holzmotte_index(vectors: *const u8, vectors_len: usize, index: *mut u8, index_len: usize) -> u64;
+    fn holzmotte_count(
+        vectors: *const u8,
+        vectors_len: usize,
+        index: *const u8,
+        index_len: usize,
+        a: u64,
+        b: u64,
+        summary: *mut u8,
+        summary_len: usize,
+    ) -> u64;
+    fn holzmotte_find_error(
+        vectors: *const u8,
+        vectors_len: usize,
+        index: *const u8,
+        index_len: usize,
+        n: u64,
+        summary: *mut u8,
+        summary_len: usize,
+    ) -> u64;
 }
 
 /// Sends a list: 0, or refusal number + 256 x place.
@@ -164,6 +184,45 @@ pub fn frames(vectors: &[u8], list: &mut [u8], summary: &mut [u8]) -> u64 {
             vectors.len(),
             list.as_mut_ptr(),
             list.len(),
+            summary.as_mut_ptr(),
+            summary.len(),
+        )
+    }
+}
+
+/// The index of a list of vectors: 0, or refusal number + 256 x place.
+pub fn index(vectors: &[u8], index: &mut [u8]) -> u64 {
+    // Safety: as above.
+    unsafe { holzmotte_index(vectors.as_ptr(), vectors.len(), index.as_mut_ptr(), index.len()) }
+}
+
+/// How many error vectors and vectors of kind S from `a` up to but not `b`: 0, or refusal number + 256 x place.
+pub fn count(vectors: &[u8], index: &[u8], a: u64, b: u64, summary: &mut [u8]) -> u64 {
+    // Safety: as above.
+    unsafe {
+        holzmotte_count(
+            vectors.as_ptr(),
+            vectors.len(),
+            index.as_ptr(),
+            index.len(),
+            a,
+            b,
+            summary.as_mut_ptr(),
+            summary.len(),
+        )
+    }
+}
+
+/// Where the n-th error vector is: 0, or refusal number + 256 x place.
+pub fn find_error(vectors: &[u8], index: &[u8], n: u64, summary: &mut [u8]) -> u64 {
+    // Safety: as above.
+    unsafe {
+        holzmotte_find_error(
+            vectors.as_ptr(),
+            vectors.len(),
+            index.as_ptr(),
+            index.len(),
+            n,
             summary.as_mut_ptr(),
             summary.len(),
         )

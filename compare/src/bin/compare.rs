@@ -121,6 +121,14 @@ fn round(options: &Options, seed: u64) -> (usize, usize) {
         total.open_frames,
         total.small_lists
     );
+    println!(
+        "indexes built: {}, entries: {}, vectors of kind S in the new edition alone: {}",
+        total.indexes, total.entries, total.new_starts
+    );
+    println!(
+        "counts by an index: {}, of them held: {}; error vectors found: {}, not found: {}, entries read at most: {}",
+        total.counts, total.held_counts, total.found, total.not_found, total.most_read
+    );
     (passed, failed)
 }
 

@@ -1,6 +1,6 @@
 //! Request 8/13: "Counts without reading the capture again." The index beside the vectors, what is counted and found by it, and the same
 //! without it.
-use super::block::{kind_of_vector, Kind};
+use super::block::{kind_of_vector, Kind, START};
 use super::edition::Edition;
 use super::sending::{judge_control_bytes, judge_length};
 use super::vector::{Vector, ERROR};
@@ -32,7 +32,8 @@ fn is_error(vector: &Vector) -> bool {
 
 /// Vectors have no edition. What is of kind S in the old one is so in the new one too, which adds low power idles before a Start.
 fn is_start(vector: &Vector) -> bool {
-    kind_of_vector(Edition::New, vector) == Kind::S
+    // without an octet of Start it is none, and most have no such octet
+    vector.contains(&START) && kind_of_vector(Edition::New, vector) == Kind::S
 }
 
 /// The vectors "from a up to but not b".
@@ -54,7 +55,7 @@ pub fn full_search(vectors: &[u8], n: u64) -> Option<usize> {
 }
 
 /// The index of a list: "how many error vectors and vectors of kind S stand before" each multiple of 64.
-pub fn entries(vectors: &[u8]) -> Vec<Counts> {
+pub fn entries_of(vectors: &[u8]) -> Vec<Counts> {
     let mut entries = vec![[0, 0]];
     for end in (STRIDE..=number_of(vectors)).step_by(STRIDE) {
         let [errors, starts] = entries[entries.len() - 1];
@@ -84,7 +85,7 @@ pub fn summary(words: [u64; 2]) -> Vec<u8> {
 pub fn build(vectors: &[u8], index_room: usize) -> Result<Vec<Counts>, Refusal> {
     judge_vectors(vectors)?;
     judge_index(vectors, index_room)?;
-    Ok(entries(vectors))
+    Ok(entries_of(vectors))
 }
 
 /// Refusal 11 is "checked after 1, 2 and 5".
