@@ -1,6 +1,7 @@
 //! The hand-written versions keep the library's contract: same result and same bytes, on many short calls in both editions, refused ones
 //! too, and on long lists and lines, over several windows of the error rate.
 use crate::frames;
+use crate::index;
 use crate::traffic::{self, Traffic};
 use crate::ways::{Way, WAYS};
 use compare::library;
@@ -238,8 +239,21 @@ fn check_frames(random: &mut Random) {
     same_frames(&vec![0; 1_000_040], 0, 8);
 }
 
+/// The counts over all vectors, with the library's index and without one.
+fn check_index() {
+    for list in traffic::all(Edition::New).into_iter().map(traffic::with_errors) {
+        let (mut built, mut summary) = (vec![0; (list.vectors.len() / 640 + 1) * 8], [0; 16]);
+        let number = list.vectors.len() as u64 / 10;
+        let done =
+            library::index(&list.vectors, &mut built) | library::count(&list.vectors, &built, 0, number, &mut summary);
+        let counted = [library::word(&summary, 0), library::word(&summary, 1)];
+        assert!(done == 0 && counted == index::full_count(&list.vectors), "plain Rust counts others than the library");
+    }
+}
+
 pub fn check() {
     let mut random = Random::new(3);
     EDITIONS.into_iter().for_each(|edition| check_in(edition, &mut random));
     check_frames(&mut random);
+    check_index();
 }

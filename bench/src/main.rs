@@ -1,7 +1,7 @@
 //! The library beside two hand-written Rust versions: same machine, same run, same input, all built for release, the buffers warm, the
 //! calls in turn, the best of many. Nothing is timed before all have given the same bytes. Then the library alone, a line in bursts beside
-//! one call over the whole; what a short call costs; frames, beside one hand-written version; and how the cost of a block changes with
-//! their number.
+//! one call over the whole; what a short call costs; frames, beside one hand-written version; an index, beside a full count
+//! without one; and how the cost of a block changes with their number.
 //!
 //! `bench FOLDER` also writes there what it prints, as `speed.md`, and the last table as a picture, `growth.svg`.
 mod agree;
@@ -9,6 +9,7 @@ mod fast;
 mod fastest;
 mod frames;
 mod growth;
+mod index;
 mod picture;
 mod report;
 mod tables;
@@ -21,7 +22,7 @@ use report::Report;
 
 fn main() {
     agree::check();
-    let mut tables = [tables::ways(), tables::bursts(), tables::calls(), tables::frames()];
+    let mut tables = [tables::ways(), tables::bursts(), tables::calls(), tables::frames(), tables::index()];
     let mut growth = Growth::new();
     for round in 1..=timing::ROUNDS {
         eprintln!("round {round} of {}", timing::ROUNDS);

@@ -114,6 +114,15 @@ pub fn calls() -> Table {
     Table { title: "A short call, ns", head: &["", "library", "plain Rust", "fastest Rust"], rows }
 }
 
+/// An index, of the vectors that are timed above with an error vector in each hundred.
+pub fn index() -> Table {
+    let told = |us: &[f64]| us.iter().map(|number| format!("{number:.1}")).collect();
+    let rows = traffic::all(Edition::Old).into_iter().map(traffic::with_errors);
+    let rows = rows.map(|t| Row::new(&[t.name], timing::index(t.vectors), told)).collect();
+    let head = &["100,000 vectors", "the index built", "a count with it", "a search with it", "full count, plain Rust"];
+    Table { title: "An index, us a call", head, rows }
+}
+
 /// Frames, of the vectors that are timed above, and of as many frames as fit.
 pub fn frames() -> Table {
     let told = |ns: &[f64]| [ns[0], ns[1], ns[0] / ns[1]].map(|number| format!("{number:.2}")).to_vec();

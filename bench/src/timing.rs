@@ -1,5 +1,6 @@
 //! How calls are timed.
 use crate::frames;
+use crate::index;
 use crate::traffic::Traffic;
 use crate::ways::WAYS;
 use compare::library;
@@ -127,6 +128,26 @@ pub fn frames(vectors: Vec<u8>) -> Timed {
         best(vectors.len() / 5, vectors.len() / 10 * 12, |way, lent| {
             let list = [library::frames, frames::list][way];
             list(&vectors, &mut lent.out, &mut lent.summary)
+        })
+    })
+}
+
+/// An index of these vectors built, the count up to the last of them and the search for the last error with it, and the full count in plain
+/// Rust, in us a call.
+pub fn index(vectors: Vec<u8>) -> Timed {
+    let (number, [errors, _]) = (vectors.len() as u64 / 10, index::full_count(&vectors));
+    let bytes = (vectors.len() / 640 + 1) * 8;
+    let mut built = vec![0; bytes];
+    assert_eq!(library::index(&vectors, &mut built), 0, "refused");
+    Timed::new::<4>(move || {
+        [0, 1, 2, 3].map(|what| {
+            let [us] = best(1_000, bytes, |_, lent| match what {
+                0 => library::index(&vectors, &mut lent.out),
+                1 => library::count(&vectors, &built, 1, number - 1, &mut lent.summary),
+                2 => library::find_error(&vectors, &built, errors, &mut lent.summary),
+                _ => (black_box(index::full_count(black_box(&vectors))) == [0, 0]) as u64,
+            });
+            us
         })
     })
 }

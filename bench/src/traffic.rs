@@ -1,4 +1,5 @@
 //! The lines that are timed, 100,000 blocks each.
+use crate::index::ERROR;
 use compare::lists;
 use compare::random::Random;
 use compare::reference::edition::Edition;
@@ -47,6 +48,12 @@ pub fn long_frames() -> Vec<u8> {
 pub fn most_frames() -> Traffic {
     let vector = [0x0f, 0x07, 0x07, 0x07, 0x07, 0x03, 0xfb, 0xfd, 0x00, 0x00];
     Traffic { name: "as many frames as fit", vectors: vector.repeat(BLOCKS), line: None }
+}
+
+/// The same with an error vector in each hundred.
+pub fn with_errors(mut traffic: Traffic) -> Traffic {
+    traffic.vectors.chunks_mut(1_000).for_each(|hundred| hundred[500..510].copy_from_slice(&ERROR));
+    traffic
 }
 
 /// 64 vectors of idles, then low power idle.
