@@ -13,7 +13,8 @@
  *   - The pointer is not NULL, even where the length is 0: pass the address of anything then.
  *   - All of it is readable memory, and writable where the pointer is not to const; the length is at most PTRDIFF_MAX.
  *   - A slice that is written (line and summary in sending; vectors, summary and counters in receiving; state in bursts; summary or room
- *     with records; list and summary with frames; index or summary with an index) overlaps no other slice of the call, nor of a call that runs at the same time.
+ *     with records; list and summary with frames; index or summary with an index) overlaps no other slice of the call, nor of a call that
+ *     runs at the same time.
  * Nothing checks these four, and nothing else is asked: no pointer has to be aligned, and every other fault is refused by a number.
  *
  * Bytes. A word is five bytes: a control byte (bit i set when lane i carries a control character; bits 4 to 7 zero), then lanes 0
@@ -112,7 +113,7 @@ enum holzmotte_refusal {
     HOLZMOTTE_CLOSED = 9,       /* a burst or a closing call after the closing one */
     HOLZMOTTE_BAD_STATE = 10,   /* a state that no line leads to: one of the limits at enum holzmotte_state_word is passed */
     HOLZMOTTE_RANGE = 11,       /* the first vector of a range after its end, its end past the vectors, or an index of the wrong length */
-    HOLZMOTTE_NO_VECTOR = 12,   /* there are fewer error vectors, or number 0 was asked for */
+    HOLZMOTTE_NO_VECTOR = 12,   /* no such error vector: there are fewer, or number 0 was asked for, or the index is of other vectors */
     HOLZMOTTE_NO_EDITION = 13   /* an edition that is not 0 or 1 */
 };
 
@@ -132,7 +133,7 @@ static inline const char *holzmotte_refusal_text(int number)
     case HOLZMOTTE_CLOSED: return "the closing call has been made";
     case HOLZMOTTE_BAD_STATE: return "the state is damaged: no line leads to it";
     case HOLZMOTTE_RANGE: return "there is no such range of vectors, or the index has another length than theirs";
-    case HOLZMOTTE_NO_VECTOR: return "there are not so many error vectors";
+    case HOLZMOTTE_NO_VECTOR: return "there is no error vector of that number";
     case HOLZMOTTE_NO_EDITION: return "there is no such edition: 0 is the old one, 1 the new one";
     default: return "unknown";
     }
@@ -567,11 +568,11 @@ uint64_t holzmotte_frames(const uint8_t *vectors, size_t vectors_len, uint8_t *l
 /* The index: counts and places in a list of vectors, without reading all of it again. It is kept beside the vectors, which are numbered from
  * 0, and holds at each multiple of 64 from 0 to their number how many of two sorts stand before it:
  *   - error vectors, exactly 0f fe fe fe fe 0f fe fe fe fe;
- *   - vectors of kind S: they have the Start (fb) of a frame, in lane 0 of their first word with data in all other lanes, or in lane 0 of
- *     their second word with data after it, behind an ordered set or four valid control characters, 06 among them.
- * Over what one receiving call wrote, in either edition, the counts from 0 up to the number of vectors that it wrote are words 11 and 10 of its
- * summary. This is proved. Vectors are indexed in fours: where those of a capture do not come so, idles go behind the last; they are of
- * neither sort.
+ *   - vectors of kind S: they have the Start (fb) of a frame, in lane 0 of their first word with data in the seven other lanes, or in lane
+ *     0 of their second word with data after it, behind an ordered set or four valid control characters, 06 among them.
+ * Over what one receiving call wrote, in either edition, the counts from 0 up to the number of vectors that it wrote are words 11 and 10 of
+ * its summary. This is proved. Vectors are indexed in fours: where those of a capture do not come so, idles go behind the last; they are
+ * of neither sort.
  *
  * What a count takes: for each end of the range one entry and at most 63 vectors. What a search takes: the entries are halved until one
  * remains, of 1,563 at most 12 are read, and then at most 64 vectors are looked at. Besides, each call looks at all control bytes, for
@@ -580,7 +581,7 @@ uint64_t holzmotte_frames(const uint8_t *vectors, size_t vectors_len, uint8_t *l
  * Which index. With the one that holzmotte_index built from the same vectors a count is the full count, and a search finds the n-th error
  * vector of all, or is refused with 12 where there are fewer. Any other index of the right length gets an answer too, which is then not to be
  * relied on: each count is from 0 to b - a, and what is found is an error vector of the list, with at most 12 entries read, or it is
- * refused with 12. Nothing notices it. So build the index anew when the vectors change. This is proved.
+ * refused with 12. This is proved. Nothing says that an index is not of these vectors: build it anew when they change.
  *
  * Here `show` gets each error vector of a range:
  *
