@@ -113,7 +113,8 @@ static int sort_is(const void *vector, uint64_t error, uint64_t start)
 
 static void sorts(void)
 {
-    CHECK(sort_is(IDLE, 0, 0) && sort_is(OCTETS, 0, 0) && sort_is(TERMINATE, 0, 0) && sort_is(LOCAL_FAULT, 0, 0) && sort_is(LOW_POWER, 0, 0));
+    CHECK(sort_is(IDLE, 0, 0) && sort_is(OCTETS, 0, 0) && sort_is(TERMINATE, 0, 0));
+    CHECK(sort_is(LOCAL_FAULT, 0, 0) && sort_is(LOW_POWER, 0, 0));
     CHECK(sort_is(ERROR, 1, 0) && sort_is(START, 0, 1) && sort_is(START_AT_4, 0, 1));
     for (size_t i = 0; i < 10; i++) { /* each byte but one */
         uint8_t near[10];
@@ -155,7 +156,8 @@ static void ranges(void)
     indexed();
     for (size_t i = 0; i < sizeof far / sizeof *far; i++) {
         CHECK(counted(0, far[i]) == HOLZMOTTE_RANGE && all(summary, summary_len, 0));
-        CHECK(counted(far[i], far[i]) == HOLZMOTTE_RANGE && counted(far[i], 0) == HOLZMOTTE_RANGE && counted(far[i], 196) == HOLZMOTTE_RANGE);
+        CHECK(counted(far[i], far[i]) == HOLZMOTTE_RANGE && counted(far[i], 0) == HOLZMOTTE_RANGE);
+        CHECK(counted(far[i], 196) == HOLZMOTTE_RANGE && all(summary, summary_len, 0));
         CHECK(found(far[i]) == HOLZMOTTE_NO_VECTOR && all(summary, summary_len, 0));
     }
     CHECK(counted(196, 196) == HOLZMOTTE_DONE && all(summary, summary_len, 0));

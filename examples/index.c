@@ -5,7 +5,8 @@
 
 static void show(uint64_t vector) { printf("vector %llu\n", (unsigned long long)vector); }
 
-static uint64_t show_errors(const uint8_t *vectors, size_t vectors_len, const uint8_t *index, size_t index_len, uint64_t a, uint64_t b)
+static uint64_t show_errors(const uint8_t *vectors, size_t vectors_len, const uint8_t *index, size_t index_len,
+                            uint64_t a, uint64_t b)
 {
     uint8_t before[HOLZMOTTE_COUNT_SUMMARY_BYTES], inside[HOLZMOTTE_COUNT_SUMMARY_BYTES], found[HOLZMOTTE_FIND_SUMMARY_BYTES];
     uint64_t result = holzmotte_count(vectors, vectors_len, index, index_len, a, b, inside, sizeof inside);

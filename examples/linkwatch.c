@@ -1,11 +1,11 @@
-/* linkwatch [--energy-saving] [--frames] [--errors] CAPTURE ...: tells a person what a 10GBASE-R link says, from captures of line records. A
- * capture is a file, or a pipe into which a probe writes: it is told as it comes, in memory that does not grow.
+/* linkwatch [--energy-saving] [--frames] [--errors] CAPTURE ...: tells a person what a 10GBASE-R link says, from captures of line records.
+ * A capture is a file, or a pipe into which a probe writes: it is told as it comes, in memory that does not grow.
  *
  * Each record's line bytes are a burst for the library. linkwatch prints one line for each run of vectors that say the same, as soon as the
  * run is over, and at the end how many blocks were bad and why, how many frames began, and how many are good and bad by Clause 46 (the
- * header, "Frames"), with --frames each of them, with --errors how many errors there are in each 1,000 blocks that have one, by an index (the
- * header, "The index"). After several captures it prints the total. All that it tells of a link stands in the vectors, summaries, counters
- * and lists that the library answered. A block takes 6.4 ns on the line.
+ * header, "Frames"), with --frames each of them, with --errors how many errors there are in each 1,000 blocks that have one, by an index
+ * (the header, "The index"). After several captures it prints the total. All that it tells of a link stands in the vectors, summaries,
+ * counters and lists that the library answered. A block takes 6.4 ns on the line.
  *
  * A capture does not say whether Energy Efficient Ethernet was on. With --energy-saving captures are received in the new edition (the
  * header, "The editions of Clause 49"), and it tells how many vectors were low power idle. Without it they are received in the old one,

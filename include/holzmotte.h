@@ -30,8 +30,8 @@
  * short for the frames, their number.
  *
  * What is written. A success writes exactly the bytes that stand at each function, from the start of the lent slice, and leaves the
- * rest of the slice as it was. A refusal leaves `line`, or `vectors`, `counters` and `state`, or `room`, `list` or `index`, as they were and
- * writes the summary's bytes as zeros; where the summary slice is too short for them it stays as it was, whatever the refusal.
+ * rest of the slice as it was. A refusal leaves `line`, or `vectors`, `counters` and `state`, or `room`, `list` or `index`, as they were
+ * and writes the summary's bytes as zeros; where the summary slice is too short for them it stays as it was, whatever the refusal.
  */
 #ifndef HOLZMOTTE_H
 #define HOLZMOTTE_H
@@ -53,10 +53,10 @@ extern "C" {
 #define HOLZMOTTE_VERSION "0.10.0"
 
 /* So much stack is enough for a call. This is tested, not proved. Measured on 64-bit Arm: to send takes up to 1.0 KB, to list frames 0.9,
- * however many there are, to find an error 0.9, to receive 0.7, a burst 0.6, to close 0.5, to count 0.3, to build an index 0.3 and to read a
- * record 0.1 (1.0 each in the first call of the test), to begin and to write a record 0.1. On x86-64: to send and to close 0.7 KB, to receive
- * 0.9, a burst 0.8; the others were not measured there. The project's two programs, which hold a whole record and what they gather, take up
- * to 239 KB. */
+ * however many there are, to find an error 0.9, to receive 0.7, a burst 0.6, to close 0.5, to count 0.3, to build an index 0.3 and to read
+ * a record 0.1 (1.0 each in the first call of the test), to begin and to write a record 0.1. On x86-64: to send and to close 0.7 KB, to
+ * receive 0.9, a burst 0.8; the others were not measured there. The project's two programs, which hold a whole record and what they gather,
+ * take up to 239 KB. */
 #define HOLZMOTTE_STACK_BYTES 16384
 
 /* Sizes, in bytes. */
@@ -565,8 +565,8 @@ static inline uint32_t holzmotte_frame(const uint8_t *list, uint64_t i, enum hol
  * Refusals, in this order: 1, 2, 5, 4 (summary too short, with place 0), 4 (list too short, with the number of frames as its place). */
 uint64_t holzmotte_frames(const uint8_t *vectors, size_t vectors_len, uint8_t *list, size_t list_len, uint8_t *summary, size_t summary_len);
 
-/* The index: counts and places in a list of vectors, without reading all of it again. It is kept beside the vectors, which are numbered from
- * 0, and holds at each multiple of 64 from 0 to their number how many of two sorts stand before it:
+/* The index: counts and places in a list of vectors, without reading all of it again. It is kept beside the vectors, which are numbered
+ * from 0, and holds at each multiple of 64 from 0 to their number how many of two sorts stand before it:
  *   - error vectors, exactly 0f fe fe fe fe 0f fe fe fe fe;
  *   - vectors of kind S: they have the Start (fb) of a frame, in lane 0 of their first word with data in the seven other lanes, or in lane
  *     0 of their second word with data after it, behind an ordered set or four valid control characters, 06 among them.
@@ -579,13 +579,14 @@ uint64_t holzmotte_frames(const uint8_t *vectors, size_t vectors_len, uint8_t *l
  * refusal 5.
  *
  * Which index. With the one that holzmotte_index built from the same vectors a count is the full count, and a search finds the n-th error
- * vector of all, or is refused with 12 where there are fewer. Any other index of the right length gets an answer too, which is then not to be
- * relied on: each count is from 0 to b - a, and what is found is an error vector of the list, with at most 12 entries read, or it is
+ * vector of all, or is refused with 12 where there are fewer. Any other index of the right length gets an answer too, which is then not to
+ * be relied on: each count is from 0 to b - a, and what is found is an error vector of the list, with at most 12 entries read, or it is
  * refused with 12. This is proved. Nothing says that an index is not of these vectors: build it anew when they change.
  *
  * Here `show` gets each error vector of a range:
  *
- *     static uint64_t show_errors(const uint8_t *vectors, size_t vectors_len, const uint8_t *index, size_t index_len, uint64_t a, uint64_t b)
+ *     static uint64_t show_errors(const uint8_t *vectors, size_t vectors_len, const uint8_t *index, size_t index_len,
+ *                                 uint64_t a, uint64_t b)
  *     {
  *         uint8_t before[HOLZMOTTE_COUNT_SUMMARY_BYTES], inside[HOLZMOTTE_COUNT_SUMMARY_BYTES], found[HOLZMOTTE_FIND_SUMMARY_BYTES];
  *         uint64_t result = holzmotte_count(vectors, vectors_len, index, index_len, a, b, inside, sizeof inside);
