@@ -10,10 +10,10 @@ use borrow.Author.Tests.{ltb-false, lt-ltb, le-ltb}
 use Rattle.refusals.specs.Number.{numberOf}
 use Rattle.refusals.specs.declared.Refusal.{Refusal}
 use Rattle.refusals.specs.declared.Refusal.the-variants.{Room}
-use Rattle.refusals.proofs.Laws.{first-append, applied, skipped, accepts}
+use Rattle.refusals.proofs.Laws.{applied, skipped, accepts}
 use Rattle.refusals.specs.First.{Check, checkAt, Verdict, accepted, refused, first, byVerdict}
 use Rattle.vector_checks.specs.Checks.{vectorChecks}
-use Rattle.vector_checks.proofs.Laws.{short, place-few, stopped, went-on}
+use Rattle.vector_checks.proofs.Laws.{short, place-behind, stopped, went-on}
 use Rattle.frames.specs.Frames.{wordsIn, wordList}
 use Rattle.frames.proofs.Apart.{few-frames}
 use Rattle.frame_list.specs.Answer.{entries, framesIn, framesNumber, framesListed, ListAnswer, listChecks, listAnswer, listAfter, Lists}
@@ -96,18 +96,15 @@ module _ (bytes list : List ℕ) where
 
 pub place-small : (bytes : List ℕ) (list n p : ℕ) → first (listChecks bytes list) ≡ refused n p → p ≤ 1000000
 unfolding listChecks
-place-small bytes list n p q = go (first (vectorChecks bytes)) refl (sym (first-append (vectorChecks bytes) _) ∙ q)
+place-small bytes list n p q =
+    place-behind bytes _
+    (λ ok m o e. last (ltb list (12 * framesNumber bytes)) (framesNumber bytes) m o e (omega (arith, short bytes ok, number-most bytes))) n p q
   where
-    last : (b : Bool) (f : ℕ) → first (checkAt 4 f b ∷ []) ≡ refused n p → f ≤ 1000000 → p ≤ 1000000
-    last true f e l =
+    last : (b : Bool) (f n p : ℕ) → first (checkAt 4 f b ∷ []) ≡ refused n p → f ≤ 1000000 → p ≤ 1000000
+    last true f n p e l =
         let q : refused 4 f ≡ refused n p = sym (applied (checkAt 4 f true) [] refl) ∙ e in
         let z : f ≡ p = cc in
         omega arith
-    last false f e l =
+    last false f n p e l =
         let q : accepted ≡ refused n p = sym (skipped (checkAt 4 f false) [] refl ∙ accepts) ∙ e in
         absurd (let z : _≡_ {A = ℕ} 0 1 = cc in omega arith)
-
-    go : (v : Verdict) → first (vectorChecks bytes) ≡ v
-        → byVerdict v (first (checkAt 4 (framesNumber bytes) (ltb list (12 * framesNumber bytes)) ∷ [])) refused ≡ refused n p → p ≤ 1000000
-    go (refused m o) e f = place-few bytes n p (e ∙ f)
-    go accepted e f = last (ltb list (12 * framesNumber bytes)) (framesNumber bytes) f (omega (arith, short bytes e, number-most bytes))

@@ -5,7 +5,8 @@ use mathlib.Core.List.{List}
 use lib.ListN.{length, replicate}
 use Rattle.refusals.specs.First.{Verdict, accepted, refused, first, byVerdict}
 use Rattle.refusals.proofs.Outcome.{outcome, both}
-use Rattle.lent_words.specs.Words.{resultOf, summaryWith}
+use Rattle.lent_words.specs.Words.{summaryWith}
+use Rattle.lent_words.proofs.Laws.{verdict-result}
 use Rattle.lent_words.proofs.LastSummary.{last-through}
 use Rattle.block.specs.Block.{vectorList}
 use Rattle.index.specs.Index.{indexFor}
@@ -17,15 +18,11 @@ use Rattle.index_search.specs.Answer as Find
 use Rattle.holzmotte_index.specs.Boundary.{countingChecks, countWords, findingChecks, findWords}
 use Rattle.holzmotte_index.specs.Demand1.{Demand1OfIndexThroughC, Demand1OfCountThroughC, Demand1OfFindThroughC}
 
-by-verdict : (v : Verdict) → resultOf v ≡ byVerdict v 0 (λ number place. number + 256 * place)
-by-verdict accepted = refl
-by-verdict (refused n p) = refl
-
 pub demand-1-of-index-through-c : Demand1OfIndexThroughC
 unfolding indexAfter
 demand-1-of-index-through-c bytes index r index′ p =
     outcome (buildChecks bytes (length index)) _ _ _
-    (ap₂ (λ (x : ℕ) (y : List ℕ). (x, y)) (p .0 ∙ by-verdict (first (buildChecks bytes (length index)))) (p .1)
+    (ap₂ (λ (x : ℕ) (y : List ℕ). (x, y)) (p .0 ∙ verdict-result (first (buildChecks bytes (length index)))) (p .1)
     ∙ both (first (buildChecks bytes (length index))) 0 (indexFor (vectorList bytes)) (λ number place. number + 256 * place) (λ number place. index))
 
 -- the words by the verdict

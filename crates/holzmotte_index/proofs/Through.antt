@@ -6,12 +6,11 @@ use mathlib.Core.List.{List, [], _∷_, _++_}
 use native.Mathlib.Omega.{arith}
 use lib.ListN.{length, replicate}
 use Rattle.refusals.specs.First.{Check, Verdict, accepted, refused, first, byVerdict}
-use Rattle.refusals.proofs.Laws.{first-append}
 use Rattle.lent_words.specs.Words.{tooShort, summaryWith}
 use Rattle.lent_words.proofs.Laws.{Placeless, place-zero}
 use Rattle.lent_words.proofs.LastSummary.{told-result, refused-result}
 use Rattle.vector_checks.specs.Checks.{vectorChecks}
-use Rattle.vector_checks.proofs.Laws.{place-few}
+use Rattle.vector_checks.proofs.Laws.{place-behind}
 use Rattle.index.specs.Answer.{BuildAnswer, built, buildChecks, buildAnswer}
 use Rattle.index.specs.Answer as Build
 use Rattle.index_count.specs.Answer.{CountAnswer, counts, countChecks, countsWith, countAnswer}
@@ -22,12 +21,8 @@ use Rattle.holzmotte_index.specs.Boundary.{countingChecks, countWords, C
 
 -- ---- how large a refusal's place can be
 
-place-behind : (bytes : List ℕ) (later : List Check) → Placeless later → (n p : ℕ) → first (vectorChecks bytes ++ later) ≡ refused n p → p < 2 ^ 56
-place-behind bytes later l n p q = go (first (vectorChecks bytes)) refl (sym (first-append (vectorChecks bytes) later) ∙ q)
-  where
-    go : (v : Verdict) → first (vectorChecks bytes) ≡ v → byVerdict v (first later) refused ≡ refused n p → p < 2 ^ 56
-    go accepted e f = omega (arith, place-zero later l n p f)
-    go (refused m o) e f = omega (arith, place-few bytes n p (e ∙ f))
+fits : (bytes : List ℕ) (later : List Check) → Placeless later → (n p : ℕ) → first (vectorChecks bytes ++ later) ≡ refused n p → p < 2 ^ 56
+fits bytes later l n p q = omega (arith, place-behind bytes later (λ ok m o e. omega (arith, place-zero later l m o e)) n p q)
 
 -- ---- building
 
@@ -46,7 +41,7 @@ build-told bytes index a e = ap verdictOfBuild e ∙ go (first (buildChecks byte
 
 pub build-place : (bytes : List ℕ) (index n p : ℕ) → Build.refused n p ≡ buildAnswer bytes index → p < 2 ^ 56
 unfolding buildChecks
-build-place bytes index n p e = place-behind bytes _ (refl, tt) n p (sym (build-told bytes index (Build.refused n p) e))
+build-place bytes index n p e = fits bytes _ (refl, tt) n p (sym (build-told bytes index (Build.refused n p) e))
 
 -- ---- counting
 
@@ -65,7 +60,7 @@ module _ (bytes index : List ℕ) (a b : ℕ) where
 
   pub count-place : (n p : ℕ) → Count.refused n p ≡ countAnswer bytes index a b → p < 2 ^ 56
   unfolding countChecks
-  count-place n p e = place-behind bytes _ (refl, tt) n p (sym (count-told (Count.refused n p) e))
+  count-place n p e = fits bytes _ (refl, tt) n p (sym (count-told (Count.refused n p) e))
 
   module _ (summary : List ℕ) (r : ℕ) (summary′ : List ℕ) where
     pub counted : (errors starts : ℕ) → counts errors starts ≡ countAnswer bytes index a b → r ≡ cond (tooShort 8 2 (length summary)) 4 0
@@ -97,7 +92,7 @@ module _ (bytes index : List ℕ) (n : ℕ) where
 
   pub find-place : (m p : ℕ) → Find.refused m p ≡ findAnswer bytes index n → p < 2 ^ 56
   unfolding findChecks
-  find-place m p e = place-behind bytes _ (refl, (refl, tt)) m p (sym (find-told (Find.refused m p) e))
+  find-place m p e = fits bytes _ (refl, (refl, tt)) m p (sym (find-told (Find.refused m p) e))
 
   module _ (summary : List ℕ) (r : ℕ) (summary′ : List ℕ) where
     pub found-one : (vector read : ℕ) → found vector read ≡ findAnswer bytes index n → r ≡ cond (tooShort 8 2 (length summary)) 4 0

@@ -14,7 +14,7 @@ use Rattle.records.specs.Record as Record
 use Rattle.record_writing.specs.Writing.{recordOf, writeChecks}
 use Rattle.record_writing.proofs.Demand1.{room-by-record}
 use Rattle.lent_words.specs.Words.{resultOf, wordBytes, tooShort, summaryWith}
-use Rattle.lent_words.proofs.Laws.{zero-words}
+use Rattle.lent_words.proofs.Laws.{verdict-result, zero-words}
 use Rattle.holzmotte_records.specs.Boundary.{readingChecks, readingResult, recordWords, limitFor}
 use Rattle.holzmotte_records.specs.Demand1.{Demand1OfReadThroughC, WholePlace, Demand1OfWriteThroughC}
 use Rattle.holzmotte_records.proofs.Through.{verdictOf, reading-verdict}
@@ -89,11 +89,7 @@ whole-place file place summary h =
 
 -- ---- writing
 
-by-verdict : (v : Verdict) → resultOf v ≡ byVerdict v 0 (λ number place. number + 256 * place)
-by-verdict accepted = refl
-by-verdict (refused number place) = refl
-
 pub demand-1-of-write-through-c : Demand1OfWriteThroughC
 demand-1-of-write-through-c kind body wide room r room′ p =
     outcome-in-room (writeChecks (limitFor wide) kind body (length room)) _ _ _ _ (recordOf kind body) room
-    (p .0 ∙ by-verdict (first (writeChecks (limitFor wide) kind body (length room)))) (p .1 ∙ room-by-record (limitFor wide) kind body room)
+    (p .0 ∙ verdict-result (first (writeChecks (limitFor wide) kind body (length room)))) (p .1 ∙ room-by-record (limitFor wide) kind body room)

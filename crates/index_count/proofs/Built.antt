@@ -37,9 +37,6 @@ unfolding countChecks
 fine bytes index a b e =
     both (first (vectorChecks bytes)) refl (sym (first-append (vectorChecks bytes) _) ∙ e)
   where
-    out : Bool
-    out = ltb b a || ltb (length (vectorList bytes)) b || wrongLength bytes (length index)
-
     tests : (x y z : Bool) → (x || y || z) ≡ false → (x ≡ false) × (y ≡ false)
     tests true y z e = absurd (let q : _≡_ {A = ℕ} 0 1 = cc in omega arith)
     tests false true z e = absurd (let q : _≡_ {A = ℕ} 0 1 = cc in omega arith)

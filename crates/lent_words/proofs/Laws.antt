@@ -53,6 +53,13 @@ unfolding first
 place-zero [] k n p e = absurd (let z : _≡_ {A = ℕ} 0 1 = cc in omega arith)
 place-zero (c ∷ cs) k n p e = place-row (c .applies) (c .number) (c .place) n p (first cs) (k .0) (place-zero cs (k .1) n p) e
 
+-- ---- a result
+
+-- by its verdict
+pub verdict-result : (v : Verdict) → resultOf v ≡ byVerdict v 0 (λ number place. number + 256 * place)
+verdict-result accepted = refl
+verdict-result (refused number place) = refl
+
 -- ---- a result of 0
 
 -- no check has number 0

@@ -1,6 +1,6 @@
 -- What vectors are that are not refused, and how large a refusal's place is. Assumes nothing.
 use Prim.Native.Nat.{ℕ, _+_, _*_, _/_, _%_, _≤_}
-use mathlib.Core.Path.{_≡_, refl}
+use mathlib.Core.Path.{_≡_, refl, sym, _∙_}
 use mathlib.Core.Bool.{Bool, true, false, not}
 use mathlib.Core.List.{List, [], _∷_, _++_}
 use native.Mathlib.Omega.{arith}
@@ -41,10 +41,19 @@ place-of false true c h n p q l = let z : 0 ≡ p = cc in omega arith
 place-of false false true h n p q l = let z : h ≡ p = cc in omega (arith, l refl refl)
 place-of false false false h n p q l = absurd (let z : _≡_ {A = ℕ} 0 1 = cc in omega arith)
 
-pub place-few : (bytes : List ℕ) (n p : ℕ) → first (vectorChecks bytes) ≡ refused n p → p ≤ 1000000
+place-few : (bytes : List ℕ) (n p : ℕ) → first (vectorChecks bytes) ≡ refused n p → p ≤ 1000000
 place-few bytes n p q =
     place-of (ltb 1000000 (length bytes)) (not (eqb (length bytes % 40) 0)) (ltb (highControl bytes) (length bytes)) (highControl bytes) n p q
     (λ c a. omega (arith, ltb-true (highControl bytes) (length bytes) c, ltb-false 1000000 (length bytes) a))
+
+-- of checks behind these too, where theirs is no larger
+pub place-behind : (bytes : List ℕ) (later : List Check) → (first (vectorChecks bytes) ≡ accepted → (n p : ℕ) → first later ≡ refused n p → p ≤ 1000000)
+    → (n p : ℕ) → first (vectorChecks bytes ++ later) ≡ refused n p → p ≤ 1000000
+place-behind bytes later l n p q = go (first (vectorChecks bytes)) refl (sym (first-append (vectorChecks bytes) later) ∙ q)
+  where
+    go : (v : Verdict) → first (vectorChecks bytes) ≡ v → byVerdict v (first later) refused ≡ refused n p → p ≤ 1000000
+    go accepted e f = l e n p f
+    go (refused m o) e f = place-few bytes n p (e ∙ f)
 
 -- ---- checks behind these: what a call answers by all of them
 
