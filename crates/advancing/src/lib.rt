@@ -1,4 +1,6 @@
 // The state after a call, from the state before it and what the receiver did: the numbers, added up.
+#![tactic(auto)]
+
 ghost use Rattle.std.specs.Prelude.{◌≡◌, cond, [], ◌≤◌};
 ghost use Rattle.receiving.specs.Parts.{no_counts, plus, none_handed, plus_handed};
 ghost use Rattle.receiving.specs.Counted.{Within, HandedWithin};

@@ -1,4 +1,6 @@
 // The vector of a tested block, once the next block is known.
+#![tactic(auto)]
+
 ghost use Rattle.std.specs.Prelude.{◌≡◌, cond, false, ◌++◌, ◌+◌, ◌≤◌, length, take, drop};
 ghost use Rattle.vectors.specs.Vector.{vector_bytes};
 ghost use Rattle.receiving.specs.Receive.{lets_end, state_of, answer_in, is_terminate};
@@ -35,7 +37,7 @@ fn state_step(s: State, h: Held, ends: bool) -> State
 }
 
 // A vector to be handed out, and what those handed out are counted for.
-#[derive(Drop)]
+#[derive(Clone, Copy)]
 pub struct Out {
     pub vector: Vector,
     pub handed: Handed,
@@ -96,7 +98,7 @@ pub fn judged_alone(have: bool, s: State) -> bool
 }
 
 // The diagram's state, where the room goes on, and what the vectors handed out are counted for.
-#[derive(Drop)]
+#[derive(Clone, Copy)]
 pub struct Answered {
     pub state: State,
     pub at: usize,

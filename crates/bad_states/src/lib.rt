@@ -1,4 +1,6 @@
 // The states that refusal 10 is given for, document 02, 2/13 and 9/13.
+#![tactic(auto)]
+
 ghost use Rattle.std.specs.Prelude.{◌≡◌, length};
 ghost use Rattle.block.specs.Block.{edition_of};
 ghost use Rattle.kept_state.specs.Meaning.{states};

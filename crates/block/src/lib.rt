@@ -1,6 +1,8 @@
 // Document 01, 'Kinds': what a block, or a vector to be sent, is: data, control, start, terminate, error; and in the newer edition of
 // Clause 49 low power idle (document 02, 9/13).
-#[derive(Drop)]
+#![tactic(auto)]
+
+#[derive(Clone, Copy)]
 pub enum Kind {
     D,
     C,
@@ -11,14 +13,14 @@ pub enum Kind {
 }
 
 // Document 02, 9/13: the edition of Clause 49 in use.
-#[derive(Drop)]
+#[derive(Clone, Copy)]
 pub enum Edition {
     Old,
     New,
 }
 
 // Document 02, 1/13: why a received block is bad.
-#[derive(Drop)]
+#[derive(Clone, Copy)]
 pub enum Reason {
     Header,
     BlockType,
@@ -27,7 +29,7 @@ pub enum Reason {
 }
 
 // What a received block is: of a kind other than E, or bad with its reason.
-#[derive(Drop)]
+#[derive(Clone, Copy)]
 pub enum Class {
     D,
     C,
@@ -38,7 +40,7 @@ pub enum Class {
 }
 
 // The block of a vector. A vector that no block carries is of kind E, with the block that is sent in state E.
-#[derive(Drop)]
+#[derive(Clone, Copy)]
 pub struct Coded {
     pub kind: Kind,
     pub header: u64,

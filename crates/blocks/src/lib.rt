@@ -1,4 +1,6 @@
 // Blocks as they stand on the line, from any bit on: one, or four at once.
+#![tactic(auto)]
+
 ghost use Rattle.std.specs.Prelude.{◌≡◌, ◌+◌, ◌*◌, ◌/◌, ◌≤◌, ◌<◌, length};
 ghost use Rattle.bits.specs.Bits.{number, line_bit};
 ghost use Rattle.blocks.specs.Blocks.{header_at, payload_at, Fours};
@@ -6,7 +8,7 @@ ghost use Rattle.blocks.specs.Blocks.{header_at, payload_at, Fours};
 use line::{Block, load, wide};
 
 // Four blocks: their headers, two bits each, the first lowest, and their payloads.
-#[derive(Drop)]
+#[derive(Clone, Copy)]
 pub struct Four {
     pub headers: u64,
     pub a: u64,

@@ -1,4 +1,6 @@
 // A line that arrives in bursts: document 02, 2/13.
+#![tactic(auto)]
+
 ghost use Rattle.std.specs.Prelude.{◌≡◌, cond, length};
 ghost use Rattle.refusals.specs.Number.{number_of};
 ghost use Rattle.receiving.specs.Answer.{received, answer_of};
@@ -17,21 +19,21 @@ use reception::{receive_last, receive_more};
 use refusals::Refusal;
 
 // A state before the first bit, or the refusal of an unknown edition.
-#[derive(Drop)]
+#[derive(Clone, Copy)]
 pub enum Begun {
     Fresh(State),
     Refused(Refusal, usize),
 }
 
 // What a call added: the counts of the blocks that it tested, and of the vectors that it handed out.
-#[derive(Drop)]
+#[derive(Clone, Copy)]
 pub struct Added {
     pub counts: Counts,
     pub handed: Handed,
 }
 
 // What a call hands back: the state after it, its answer, and what it added. A refusal's state is the one that was handed in.
-#[derive(Drop)]
+#[derive(Clone, Copy)]
 pub struct Reply {
     pub state: State,
     pub answer: Received,

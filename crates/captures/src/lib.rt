@@ -1,4 +1,6 @@
 // One record of a capture: its body is handed on, as the part of the capture that it is, to sending or to receiving.
+#![tactic(auto)]
+
 ghost use Rattle.std.specs.Prelude.{◌≡◌};
 ghost use Rattle.captures.specs.Captures.{body_of_kind, found_of, SendsRecord, ReceivesRecord};
 
@@ -8,7 +10,7 @@ use refusals::Refusal;
 use sending::Sent;
 
 // The body of a record, or why there is none.
-#[derive(Drop)]
+#[derive(Clone, Copy)]
 enum Body {
     // len bytes from start.
     Part { start: usize, len: usize },
@@ -19,7 +21,7 @@ enum Body {
 }
 
 // What sending a record comes to.
-#[derive(Drop)]
+#[derive(Clone, Copy)]
 pub enum RecordSent {
     // What sending answered to the body.
     Sent(Sent),
@@ -30,7 +32,7 @@ pub enum RecordSent {
 }
 
 // What receiving a record comes to.
-#[derive(Drop)]
+#[derive(Clone, Copy)]
 pub enum RecordReceived {
     // What receiving answered to the body.
     Received(Received),

@@ -1,4 +1,6 @@
 // Blocks taken from the line: a whole one where nothing is carried, else the bits that the carried one lacks.
+#![tactic(auto)]
+
 ghost use Rattle.std.specs.Prelude.{◌≡◌, false, ◌+◌, ◌-◌, ◌*◌, ◌^◌, ◌<◌, ◌≤◌, length};
 ghost use Rattle.bits.specs.Bits.{number, line_bit, line_bits};
 ghost use Rattle.line.specs.BlockNumber.{block_number};
@@ -7,7 +9,7 @@ ghost use Rattle.carrying.specs.Carrying.{word_of, Sound, Takes};
 use line::{Block, bits_at, header_at, wide};
 
 // The bits since the last tested block, fewer than 66: the header's two, then the payload's, each with the first bit lowest.
-#[derive(Drop)]
+#[derive(Clone, Copy)]
 pub struct Carried {
     pub count: u64,
     pub header: u64,
@@ -15,7 +17,7 @@ pub struct Carried {
 }
 
 // What is taken from the line: where the line goes on, and a full block or what is carried now.
-#[derive(Drop)]
+#[derive(Clone, Copy)]
 pub struct Taken {
     pub full: bool,
     pub header: u64,

@@ -1,5 +1,7 @@
 // The octet of a received character, by its slot: 0 data, 1 a control character, 2 one whose code is not 1e, 3 an ordered set, 4 Start,
 // 5 Terminate.
+#![tactic(auto)]
+
 ghost use Rattle.std.specs.Prelude.{◌≡◌, ◌/◌, ◌%◌, ◌^◌, ◌<◌, ◌≤◌};
 ghost use Rattle.block.specs.Block.{Control, Calm, Set, octet_of};
 ghost use Rattle.block.specs.Rows.{width};
@@ -74,7 +76,7 @@ fn character(edition: Edition, slot: u64, place: u64, x: u64) -> u16
 
 // Four characters: their octets as lanes, what of them does not fit a byte, 0 where all are valid, and how many of them say that
 // their control code is bad.
-#[derive(Drop)]
+#[derive(Clone, Copy)]
 pub struct Half {
     pub lanes: u32,
     pub over: u16,

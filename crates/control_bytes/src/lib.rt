@@ -1,4 +1,6 @@
 // The control bytes of a list of words: where the first above 15 is.
+#![tactic(auto)]
+
 ghost use Rattle.std.specs.Prelude.{◌≡◌, true, ℕ, ◌+◌, ◌*◌, ◌%◌, ◌<◌, ◌≤◌, max, length, get_or};
 ghost use Rattle.bits.specs.Bits.{line_bit};
 ghost use Rattle.control_bytes.specs.Control.{high_control};
@@ -22,7 +24,7 @@ fn high_control(bytes: &[u8]) -> usize
 }
 
 // Groups of eight words, which are 320 bits, one over the other: a bit is set where it is in one of them. They are 64 to a field, the first lowest.
-#[derive(Drop)]
+#[derive(Clone, Copy)]
 struct Over {
     a: u64,
     b: u64,

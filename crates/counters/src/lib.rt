@@ -1,11 +1,13 @@
 // Document 02, 3/13: "A counters record is lent to each call and updated in place".
+#![tactic(auto)]
+
 ghost use Rattle.std.specs.Prelude.{◌≡◌};
 ghost use Rattle.counters.specs.Counters.{becomes, updated, ReceivesCounting};
 
 use receiving::{Counts, Handed, Received};
 
 // The firmware's running total: tested, slips, the four reasons, frames begun, vectors replaced.
-#[derive(Drop)]
+#[derive(Clone, Copy)]
 pub struct Counters {
     pub tested: u32,
     pub slips: u32,
@@ -18,7 +20,7 @@ pub struct Counters {
 }
 
 // What a receiving call answers, and the counters after it.
-#[derive(Drop)]
+#[derive(Clone, Copy)]
 pub struct Counted {
     pub answer: Received,
     pub counters: Counters,

@@ -1,4 +1,6 @@
 // What a tested block is counted for, and what a vector handed out.
+#![tactic(auto)]
+
 ghost use Rattle.std.specs.Prelude.{◌≡◌, cond, ◌≤◌};
 ghost use Rattle.block.specs.declared.Class.TheVariants.{Bad};
 ghost use Rattle.receiving.specs.Counted.{reasoned, counted, Within, decoded_out, replaced_out, HandedWithin};

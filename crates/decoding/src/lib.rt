@@ -1,4 +1,6 @@
 // One received block: its class and its vector.
+#![tactic(auto)]
+
 ghost use Rattle.std.specs.Prelude.{◌≡◌, ◌<◌};
 ghost use Rattle.block.specs.Block.{error_vector, decoded_by, decoded, good, class_by, class_of, kind_in};
 ghost use Rattle.block.specs.Rows.{row};
@@ -12,7 +14,7 @@ use shapes::{Shape, shape_of};
 use vectors::{Vector, bytes_of};
 
 // What a block decodes to: its class, and its vector, the error vector where it is bad.
-#[derive(Drop)]
+#[derive(Clone, Copy)]
 pub struct Decoded {
     pub class: Class,
     pub vector: Vector,

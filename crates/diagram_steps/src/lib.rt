@@ -1,4 +1,6 @@
 // Document 01, 'Diagrams': transmit and receive, one step each, by value.
+#![tactic(auto)]
+
 ghost use Rattle.std.specs.Prelude.{◌≡◌};
 ghost use Rattle.diagrams.specs.Diagram.{diagram_of, follows};
 

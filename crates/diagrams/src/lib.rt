@@ -1,11 +1,13 @@
 // Document 01, 'Diagrams': the states of transmit and receive, their numbers, and four tests of a state by which a step goes.
+#![tactic(auto)]
+
 ghost use Rattle.std.specs.Prelude.{◌≡◌, ◌<◌};
 ghost use Rattle.diagrams.specs.Diagram.{state_number};
 ghost use Rattle.diagrams.specs.Parts.{is_data, goes_on, may_begin, may_rest};
 
 // The states of both diagrams: INIT, C, T, LI, and then D and E, in which a frame may go on, so that one comparison tells these two. The
 // document's numbers are another matter (state_number).
-#[derive(Drop)]
+#[derive(Clone, Copy)]
 pub enum State {
     Init,
     Control,

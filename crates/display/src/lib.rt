@@ -1,4 +1,6 @@
 // What the two programs write, as functions on slices. Each writes a text from a place of the output on, and answers the place after it.
+#![tactic(auto)]
+
 ghost use Rattle.std.specs.Prelude.{◌≡◌, ◌++◌, ◌+◌, ◌*◌, ◌/◌, ◌≤◌, ◌<◌, length};
 ghost use Rattle.refusals.specs.Number.{number_of};
 ghost use Rattle.record_writing.specs.Writing.{record_of};

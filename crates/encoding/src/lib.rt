@@ -1,4 +1,6 @@
 // One vector to be sent: the block that carries it.
+#![tactic(auto)]
+
 ghost use Rattle.std.specs.Prelude.{◌≡◌, ◌+◌, ◌*◌, ◌<◌, ◌≤◌, length};
 ghost use Rattle.block.specs.Block.{two_words, carrier, encode_answer};
 ghost use Rattle.block.specs.Coded.{coded_of};
@@ -13,7 +15,7 @@ use quick_encoding::quick;
 use refusals::Refusal;
 
 // The answer for one vector by itself: a refusal and its place; kind E; or kind, header and payload.
-#[derive(Drop)]
+#[derive(Clone, Copy)]
 pub enum Encoded {
     Refused(Refusal, usize),
     Invalid,

@@ -1,4 +1,6 @@
 // One field of a block format, as encoding fills it: its code, and its place in the payload.
+#![tactic(auto)]
+
 ghost use Rattle.std.specs.Prelude.{◌≡◌, ◌*◌, ◌<◌, ◌^◌};
 ghost use Rattle.block.specs.Block.{Control, code_of};
 ghost use Rattle.fields.specs.Parts.{slot_of, field_in, field_code, place_of_field};
@@ -8,7 +10,7 @@ use block::Edition;
 pub mod rows;
 
 // A payload, where the format's fields take all eight characters.
-#[derive(Drop)]
+#[derive(Clone, Copy)]
 pub struct Sum {
     pub fits: bool,
     pub payload: u64,

@@ -1,4 +1,6 @@
 // The frames of a list of vectors: document 02, 5/13.
+#![tactic(auto)]
+
 ghost use Rattle.std.specs.Prelude.{◌≡◌, true, cond, ◌&&◌, [], ◌∷◌, ◌++◌, ◌+◌, ◌*◌, ◌/◌, ◌<◌, ◌≤◌, ltb, length, take, drop};
 ghost use Rattle.lent_words.specs.Words.{word_bytes, flag_word};
 ghost use Rattle.frames.specs.Frames.{starts};
@@ -14,14 +16,14 @@ use refusals::Refusal;
 use vector_checks::{Checked, check_vectors};
 
 // The answer: how many frames were listed; or a refusal and its place.
-#[derive(Drop)]
+#[derive(Clone, Copy)]
 pub enum Listed {
     Done(usize),
     Refused(Refusal, usize),
 }
 
 // How far listing came: the word at which it goes on, and how many entries are in the list.
-#[derive(Drop)]
+#[derive(Clone, Copy)]
 struct Reached {
     word: usize,
     entries: usize,

@@ -1,11 +1,13 @@
 // One frame, read from its Start to its end: document 02, 5/13.
+#![tactic(auto)]
+
 ghost use Rattle.std.specs.Prelude.{◌≡◌, true, ◌&&◌, ◌+◌, ◌/◌, ◌<◌, ◌≤◌, length};
 ghost use Rattle.frames.specs.Frames.{by_flag, starts};
 ghost use Rattle.frames.specs.Words.{nth_word, quiet_before};
 ghost use Rattle.frame_reading.specs.Reading.{with_character, with_three, with_word, ReadsFrame};
 
 // A frame while it is read: whether it is open, its data octets so far, and whether it is good; while it is open, as far as it was read.
-#[derive(Drop)]
+#[derive(Clone, Copy)]
 struct Reading {
     going: bool,
     octets: usize,
@@ -13,7 +15,7 @@ struct Reading {
 }
 
 // A frame that was read: its data octets, whether it is good, and the word at which reading goes on.
-#[derive(Drop)]
+#[derive(Clone, Copy)]
 pub struct Ended {
     pub octets: usize,
     pub good: bool,

@@ -1,4 +1,6 @@
 // Where frames begin: document 02, 5/13.
+#![tactic(auto)]
+
 ghost use Rattle.std.specs.Prelude.{◌≡◌, ◌/◌, ◌<◌, ◌≤◌, length};
 ghost use Rattle.frames.specs.Frames.{word_list, frames_of};
 ghost use Rattle.frames.specs.Words.{quiet_before};

@@ -1,4 +1,6 @@
 // One word, as reading frames looks at it: document 02, 5/13.
+#![tactic(auto)]
+
 ghost use Rattle.std.specs.Prelude.{◌≡◌, ◌/◌, ◌<◌, length};
 ghost use Rattle.frames.specs.Frames.{quiet, starts};
 ghost use Rattle.frames.specs.Words.{nth_word};

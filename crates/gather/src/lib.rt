@@ -1,4 +1,6 @@
 // What the two programs do with each record of their input.
+#![tactic(auto)]
+
 ghost use Rattle.std.specs.Prelude.{◌≤◌, length, take};
 ghost use Rattle.records.specs.Record.{body_limit};
 ghost use Rattle.gather.specs.Gather.{more, next, next_read, read_of, count_of, Shows};
@@ -7,7 +9,7 @@ use records::Found;
 use refusals::Refusal;
 
 // What reading comes to.
-#[derive(Drop)]
+#[derive(Clone, Copy)]
 pub enum Got {
     // So many bytes.
     Bytes(usize),
@@ -18,7 +20,7 @@ pub enum Got {
 }
 
 // What judging a record comes to.
-#[derive(Drop)]
+#[derive(Clone, Copy)]
 pub enum Step {
     // So many bytes are gathered now.
     More(usize),

@@ -1,4 +1,6 @@
 // Four vectors sent at a time. Document 01, 'Vectors, words and line bits': "four vectors (40 bytes) give 33 line bytes".
+#![tactic(auto)]
+
 ghost use Rattle.std.specs.Prelude.{◌≡◌, true, List, ℕ, ◌+◌, ◌%◌, ◌^◌, ◌<◌, ◌≤◌, length, get_or, drop};
 ghost use Rattle.block.specs.Block.{vectors_in};
 ghost use Rattle.transmit.specs.Steps.{idle_coded, low_power_coded};
@@ -11,7 +13,7 @@ use line::Block;
 use transmit::{Sender, Step, idles, low_power, send_after, send_one};
 
 // Four vectors sent: their blocks as they go on the line, and where sending then stands.
-#[derive(Drop)]
+#[derive(Clone, Copy)]
 pub struct Group {
     pub a: Block,
     pub b: Block,

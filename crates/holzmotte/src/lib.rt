@@ -1,4 +1,6 @@
 // The C boundary: byte slices and 64-bit numbers. include/holzmotte.h says what each pointer is.
+#![tactic(auto)]
+
 ghost use Rattle.std.specs.Prelude.{◌≡◌, ℕ, ◌<◌, length, true};
 ghost use Rattle.slices.specs.Slices.{short_slice};
 ghost use Rattle.holzmotte.specs.Boundary.{send_result, SendsThroughC, receive_result, ReceivesThroughC};

@@ -1,4 +1,6 @@
 // Bursts through C: byte slices and 64-bit numbers. include/holzmotte.h says what each pointer is.
+#![tactic(auto)]
+
 ghost use Rattle.std.specs.Prelude.{◌≡◌, cond, ◌≤◌, length};
 ghost use Rattle.receiving.specs.Answer.{answer_of};
 ghost use Rattle.holzmotte_bursts.specs.Boundary.{BeginsThroughC, burst_left, close_left, Leaves};

@@ -1,4 +1,6 @@
 // The C boundary of frames: byte slices and 64-bit numbers. include/holzmotte.h says what each pointer is.
+#![tactic(auto)]
+
 ghost use Rattle.std.specs.Prelude.{◌≡◌, cond, ℕ, ◌%◌, ◌<◌, eqb};
 ghost use Rattle.holzmotte_frames.specs.Boundary.{frames_result, ListsThroughC};
 

@@ -1,4 +1,6 @@
 // The C boundary of the index: byte slices and 64-bit numbers. include/holzmotte.h says what each pointer is.
+#![tactic(auto)]
+
 ghost use Rattle.holzmotte_index.specs.Boundary.{IndexesThroughC, CountsThroughC, FindsThroughC};
 
 use index::{Built, build};

@@ -1,4 +1,6 @@
 // The C boundary of capture records: byte slices and 64-bit numbers. include/holzmotte.h says what each pointer is.
+#![tactic(auto)]
+
 ghost use Rattle.holzmotte_records.specs.Boundary.{ReadsThroughC, WritesThroughC};
 
 use lent_words::{refusal, told};

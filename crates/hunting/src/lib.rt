@@ -1,5 +1,7 @@
 // Blocks while not locked: their headers are tested, and each is answered as Local Fault. What is counted wants to know of a control block that
 // its type is none, or that it is decoded at once and so not bad. A slip takes no branch of its own. What is left stands with `turn`.
+#![tactic(auto)]
+
 ghost use Rattle.std.specs.Prelude.{◌≡◌, true, false, ◌+◌, ◌*◌, ◌/◌, ◌%◌, ◌^◌, ◌≤◌, ◌<◌, length};
 ghost use Rattle.block.specs.Block.{local_fault_vector};
 ghost use Rattle.block.specs.declared.Edition.{Edition};
@@ -21,7 +23,7 @@ use vectors::{Vector, put_vector};
 
 // How far a search for lock has come: the next line bit, the next byte of the room, the last 58 payload bits, and the headers tested since
 // the last slip; and of all blocks tested how many slipped, how many were control blocks of no type, and how many there were.
-#[derive(Drop)]
+#[derive(Clone, Copy)]
 struct Search {
     pos: usize,
     at: usize,

@@ -1,4 +1,6 @@
 // The index of a list of vectors: document 02, 8/13.
+#![tactic(auto)]
+
 ghost use Rattle.std.specs.Prelude.{◌≡◌, [], ◌∷◌, ◌++◌, ◌+◌, ◌*◌, ◌≤◌, ◌<◌, length, take, drop};
 ghost use Rattle.control_bytes.specs.Control.{Low};
 ghost use Rattle.lent_words.specs.Words.{word_bytes};
@@ -12,7 +14,7 @@ use tally::tally_of;
 use vector_checks::{Checked, check_vectors};
 
 // The answer: the index is built; or a refusal and its place.
-#[derive(Drop)]
+#[derive(Clone, Copy)]
 pub enum Built {
     Done,
     Refused(Refusal, usize),

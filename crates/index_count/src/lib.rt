@@ -1,4 +1,6 @@
 // Counting with an index: document 02, 8/13.
+#![tactic(auto)]
+
 ghost use Rattle.std.specs.Prelude.{◌≡◌, ◌+◌, ◌-◌, ◌*◌, ◌/◌, ◌≤◌, ◌<◌, min, length};
 ghost use Rattle.control_bytes.specs.Control.{Low};
 ghost use Rattle.block.specs.Block.{is_error_vector, vector_list};
@@ -14,7 +16,7 @@ use tally::{Tally, tally_of};
 use vector_checks::{Checked, check_vectors};
 
 // The answer: how many error vectors and how many vectors of kind S; or a refusal and its place.
-#[derive(Drop)]
+#[derive(Clone, Copy)]
 pub enum Counted {
     Counts(u64, u64),
     Refused(Refusal, usize),

@@ -1,4 +1,6 @@
 // Finding the n-th error vector with an index: document 02, 8/13.
+#![tactic(auto)]
+
 ghost use Rattle.std.specs.Prelude.{◌≡◌, ℕ, ◌+◌, ◌-◌, ◌*◌, ◌/◌, ◌<◌, ◌≤◌, min, length, take, drop};
 ghost use Rattle.block.specs.Block.{vectors_in, vector_list, is_error_vector};
 ghost use Rattle.index.specs.Index.{entry_count};
@@ -15,14 +17,14 @@ use vector_checks::{Checked, check_vectors};
 use vector_tests::is_error;
 
 // The answer: the number of the vector, and how many entries were read; or a refusal and its place.
-#[derive(Drop)]
+#[derive(Clone, Copy)]
 pub enum Found {
     At(usize, usize),
     Refused(Refusal, usize),
 }
 
 // The entry that remains, and how many entries were read.
-#[derive(Drop)]
+#[derive(Clone, Copy)]
 pub struct Halved {
     pub entry: usize,
     pub read: usize,

@@ -1,5 +1,7 @@
 // Gathering the records of a file descriptor. What is read is the operating system's to say: the promises say that there are reads,
 // window by window, for which the outcome and the store are those of the definition.
+#![tactic(auto)]
+
 ghost use Rattle.std.specs.Prelude.{◌≡◌, ◌+◌, ◌^◌, ◌≤◌, ◌<◌, length};
 ghost use Rattle.gather.specs.Gather.{count_of};
 ghost use Rattle.input.specs.Read.{got_by, behind, OneRead, InAll, OnlyAt, WindowIn, Gathers};

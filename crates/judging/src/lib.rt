@@ -1,4 +1,6 @@
 // Whether a call of a line in bursts is refused, document 02, 2/13 and 9/13: refusals 13, 9, 10, 1 and 4.
+#![tactic(auto)]
+
 ghost use Rattle.std.specs.Prelude.{◌≡◌};
 ghost use Rattle.judging.specs.Judging.{burst_verdict};
 ghost use Rattle.judging.specs.Coded.{verdict_said};
@@ -8,7 +10,7 @@ use kept_state::State;
 use refusals::Refusal;
 
 // What the checks come to.
-#[derive(Drop)]
+#[derive(Clone, Copy)]
 pub enum Judgement {
     Accepted,
     Refused(Refusal),

@@ -1,4 +1,6 @@
 // The state of a receiver between two calls, document 02, 2/13: the receiver that its numbers mean, and the numbers of a held block.
+#![tactic(auto)]
+
 ghost use Rattle.std.specs.Prelude.{◌≡◌, cond, [], ◌∷◌, ◌<◌};
 ghost use Rattle.block.specs.Block.{edition_of};
 ghost use Rattle.carrying.specs.Carrying.{Sound, carried_bits};
@@ -15,7 +17,7 @@ use vectors::Vector;
 
 // A held block: whether the receiver was then locked and not high, the number of its kind, and the two words of its vector, five bytes
 // each, the control byte lowest.
-#[derive(Drop)]
+#[derive(Clone, Copy)]
 pub struct Kept {
     pub on: bool,
     pub kind: u64,
@@ -26,7 +28,7 @@ pub struct Kept {
 // What is handed back and given again: whether the closing call was made, the line bytes so far, the number of the edition, lock, error rate
 // and the last 58 payload bits of the line, the bits since the last tested block, whether the next bit is to be skipped, the number of
 // the diagram's state, the block tested last, if there is one, and the summary's counts over the line so far. Any numbers may be handed in.
-#[derive(Drop)]
+#[derive(Clone, Copy)]
 pub struct State {
     pub closed: bool,
     pub bytes: u64,

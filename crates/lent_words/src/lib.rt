@@ -1,4 +1,6 @@
 // What every call through C answers, and words in a lent slice.
+#![tactic(auto)]
+
 ghost use Rattle.std.specs.Prelude.{◌≡◌, cond, ◌++◌, ◌+◌, ◌*◌, ◌^◌, ◌≤◌, ◌<◌, length, drop};
 ghost use Rattle.refusals.specs.Number.{number_of};
 ghost use Rattle.lent_words.specs.Words.{flag_word, word_bytes, too_short, summary_with};

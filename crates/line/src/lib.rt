@@ -1,10 +1,12 @@
 // Bits of the line at any place, and blocks put on it.
+#![tactic(auto)]
+
 ghost use Rattle.std.specs.Prelude.{◌≡◌, [], ◌∷◌, ◌++◌, ◌+◌, ◌*◌, ◌≤◌, ◌<◌, length, take, drop};
 ghost use Rattle.bits.specs.Bits.{bit, number, line_bit, stream_bit, cut};
 ghost use Rattle.line.specs.BlockNumber.{block_number};
 
 // A block: its two header bits and its 64 payload bits, each with the first bit lowest.
-#[derive(Drop)]
+#[derive(Clone, Copy)]
 pub struct Block {
     pub header: u64,
     pub payload: u64,

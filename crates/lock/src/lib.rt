@@ -1,10 +1,12 @@
 // Document 01, 'Diagrams': block lock and error rate, one tested header each, by value.
+#![tactic(auto)]
+
 ghost use Rattle.std.specs.Prelude.{◌≡◌, ◌<◌, ◌≤◌};
 ghost use Rattle.lock.specs.Lock.{lock_of, slips_of, counted_of, invalid_of};
 ghost use Rattle.lock.specs.Rate.{rate_of, window_of};
 
 // Headers tested and those of them invalid since the counts were last zero, and whether the receiver is locked.
-#[derive(Drop)]
+#[derive(Clone, Copy)]
 pub struct Lock {
     pub tested: u64,
     pub invalid: u64,
@@ -12,14 +14,14 @@ pub struct Lock {
 }
 
 // What one tested header does: the lock after it, and whether it slipped.
-#[derive(Drop)]
+#[derive(Clone, Copy)]
 pub struct Locking {
     pub lock: Lock,
     pub slipped: bool,
 }
 
 // Blocks and invalid headers of the window at hand, and whether the error rate is high.
-#[derive(Drop)]
+#[derive(Clone, Copy)]
 pub struct Rate {
     pub blocks: u64,
     pub invalid: u64,

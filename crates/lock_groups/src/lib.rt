@@ -1,4 +1,6 @@
 // Four blocks in lock: four data blocks, or four of idles, at once, any others that are decoded at once one after the other.
+#![tactic(auto)]
+
 ghost use Rattle.std.specs.Prelude.{◌≡◌, true, false, ◌+◌, ◌*◌, ◌/◌, ◌^◌, ◌≤◌, ◌<◌, length};
 ghost use Rattle.block.specs.Block.{kind_in};
 ghost use Rattle.diagrams.specs.Diagram.{diagram_of};

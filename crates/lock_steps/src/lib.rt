@@ -1,5 +1,7 @@
 // One block in lock: it is tested, the block held is answered, and it is held in turn. A run of such blocks, from where it begins to where it
 // has come.
+#![tactic(auto)]
+
 ghost use Rattle.std.specs.Prelude.{◌≡◌, true, false, cond, ◌+◌, ◌*◌, ◌≤◌, ◌<◌, ltb, length};
 ghost use Rattle.block.specs.Block.{decoded, class_of, kind_in, is_error};
 ghost use Rattle.block.specs.declared.Edition.{Edition};
@@ -27,7 +29,7 @@ use vectors::{Vector, put_vector};
 // How far a run of blocks in lock has come: where its next vector goes, how many blocks it has, the last 58 payload bits, the state of the
 // diagram, class and vector of the block held, and what its vectors are counted for. What else there is of a receiver follows from where
 // the run began.
-#[derive(Drop)]
+#[derive(Clone, Copy)]
 pub struct Run {
     pub at: usize,
     pub count: u64,

@@ -1,4 +1,6 @@
 // Blocks in lock, as many as come in groups of four and are decoded at once. What is left stands with `turn`.
+#![tactic(auto)]
+
 ghost use Rattle.std.specs.Prelude.{◌≡◌, true, ◌*◌, ◌≤◌, ◌<◌, length};
 ghost use Rattle.receiving.specs.Loop.{Under, Stretches};
 ghost use Rattle.lock_steps.specs.InLock.{InLock};

@@ -1,5 +1,7 @@
 // The two programs. What each writes is one proved function of what it gathered, `sender_output` and `receiver_output`, and of its
 // reads, `sender_from` and `receiver_from`. Only reading and writing themselves are outside the proof.
+#![tactic(auto)]
+
 ghost use Rattle.std.specs.Prelude.{◌≡◌, [], ◌≤◌, length};
 ghost use Rattle.io.specs.Counts.{IsPrefixLen};
 ghost use Rattle.putting.specs.Overlaid.{PutsText};

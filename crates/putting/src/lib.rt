@@ -1,4 +1,6 @@
 // Bytes put at a place of a slice: how a store or an output is filled piece by piece.
+#![tactic(auto)]
+
 ghost use Rattle.std.specs.Prelude.{◌≡◌, ◌+◌, ◌≤◌, length};
 ghost use Rattle.putting.specs.Overlaid.{overlaid, PutsText};
 

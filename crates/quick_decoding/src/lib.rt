@@ -1,4 +1,6 @@
 // A block that is decoded at once: its class and its vector.
+#![tactic(auto)]
+
 ghost use Rattle.quick_decoding.specs.AtOnce.{DecodedAtOnce};
 
 use block::Class;
@@ -7,7 +9,7 @@ use vectors::Vector;
 
 // A block decoded at once, where all its codes are 0: whether that is so, its class and its vector. Those are idles, ordered sets, Starts,
 // Terminates and data, which are the same in both editions.
-#[derive(Drop)]
+#[derive(Clone, Copy)]
 pub struct QuickDecoded {
     pub there: bool,
     pub class: Class,

@@ -1,11 +1,13 @@
 // Blocks that are known by a look at all eight octets of a vector.
+#![tactic(auto)]
+
 ghost use Rattle.std.specs.Prelude.{◌≡◌, true, false, ℕ, ◌+◌, ◌*◌, ◌<◌, ◌≤◌, ◌^◌};
 ghost use Rattle.quick_encoding.specs.Quick.{QuicklyCoded};
 
 use block::Kind;
 
 // What a look at all eight octets tells: whether that is all there is to ask, and then the block.
-#[derive(Drop)]
+#[derive(Clone, Copy)]
 pub struct Known {
     pub there: bool,
     pub kind: Kind,

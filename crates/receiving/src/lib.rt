@@ -1,5 +1,7 @@
 // A receiver, as the code holds it. What a line gives of it is defined in specs/; what a receiver counts, answers and does in one turn is in
 // the crates counting, answering and turning, and the loop over a line in the crate reception.
+#![tactic(auto)]
+
 use block::{Class, Edition};
 use carrying::Carried;
 use diagrams::State;
@@ -8,7 +10,7 @@ use refusals::Refusal;
 use vectors::Vector;
 
 // The edition in use, and what each tested block updates: lock, error rate, and the last 58 payload bits of the line, the oldest at bit 0.
-#[derive(Drop)]
+#[derive(Clone, Copy)]
 pub struct Link {
     pub edition: Edition,
     pub lock: Lock,
@@ -18,7 +20,7 @@ pub struct Link {
 
 // What tested blocks are counted for: how many there are, how many of them slipped, and how many are bad by their header, type,
 // control codes or ordered set codes.
-#[derive(Drop)]
+#[derive(Clone, Copy)]
 pub struct Counts {
     pub tested: u64,
     pub slips: u64,
@@ -30,7 +32,7 @@ pub struct Counts {
 
 // What vectors handed out are counted for: those of kind S that were answered as decoded, which begin frames, and those answered as the
 // error vector.
-#[derive(Drop)]
+#[derive(Clone, Copy)]
 pub struct Handed {
     pub begun: u64,
     pub replaced: u64,
@@ -38,7 +40,7 @@ pub struct Handed {
 
 // What receiving returns: the counts of blocks, lock and error rate at the end, the number of vectors, whether the last of them was judged
 // without its successor, and the counts of vectors.
-#[derive(Drop)]
+#[derive(Clone, Copy)]
 pub struct Summary {
     pub counts: Counts,
     pub locked: bool,
@@ -48,14 +50,14 @@ pub struct Summary {
     pub handed: Handed,
 }
 
-#[derive(Drop)]
+#[derive(Clone, Copy)]
 pub enum Received {
     Done(Summary),
     Refused(Refusal, usize),
 }
 
 // A tested block: whether the receiver was then locked and not high, whether it slipped, its class and its decoded vector.
-#[derive(Drop)]
+#[derive(Clone, Copy)]
 pub struct Held {
     pub on: bool,
     pub slipped: bool,
@@ -65,7 +67,7 @@ pub struct Held {
 
 // A receiver between two line bits: whether the next bit is to be skipped, the bits since the last tested block, the link, the
 // state of the receive diagram, and the block tested last, if there is one: its vector waits for a look at the next block.
-#[derive(Drop)]
+#[derive(Clone, Copy)]
 pub struct Receiver {
     pub carried: Carried,
     pub link: Link,
@@ -76,7 +78,7 @@ pub struct Receiver {
 }
 
 // How far a receiver has come: the next line bit, the next byte of the room, and what it has counted.
-#[derive(Drop)]
+#[derive(Clone, Copy)]
 pub struct Progress {
     pub receiver: Receiver,
     pub pos: usize,
@@ -86,7 +88,7 @@ pub struct Progress {
 }
 
 // What the vector of the last block adds: the counts of vectors with it, and whether it was judged without its successor.
-#[derive(Drop)]
+#[derive(Clone, Copy)]
 pub struct LastVector {
     pub handed: Handed,
     pub alone: bool,

@@ -1,4 +1,6 @@
 // Receiving a line, or one more part of one: document 01, 'Diagrams' (Lock, Error rate, Receive), and document 02, 2/13.
+#![tactic(auto)]
+
 ghost use Rattle.std.specs.Prelude.{◌≡◌, true, ◌++◌, ◌+◌, ◌*◌, ◌/◌, ◌≤◌, length, take, drop};
 ghost use Rattle.carrying.specs.Carrying.{Sound};
 ghost use Rattle.receiving.specs.Answer.{Receives, summary_of};

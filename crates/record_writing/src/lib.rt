@@ -1,4 +1,6 @@
 // Writing a capture record into lent room, document 01 and document 02, 7/13.
+#![tactic(auto)]
+
 ghost use Rattle.std.specs.Prelude.{◌≡◌, ◌+◌, ◌<◌, ◌≤◌, ◌++◌, length, drop};
 ghost use Rattle.record_writing.specs.Writing.{limit_kept, record_of, Writes};
 
@@ -9,7 +11,7 @@ use refusals::Refusal;
 const OLD_LIMIT: usize = 4092;
 
 // What writing a record answers.
-#[derive(Drop)]
+#[derive(Clone, Copy)]
 pub enum Written {
     // So many bytes were written.
     Done(usize),

@@ -1,4 +1,6 @@
 // Capture records, document 01 and document 02, 7/13: reading one at a place, and its body as a part of the input.
+#![tactic(auto)]
+
 ghost use Rattle.std.specs.Prelude.{◌≡◌, ◌+◌, ◌<◌, ◌≤◌, length};
 ghost use Rattle.records.specs.Record.{body_limit, two_at, unknown_kind, not_groups, Finds, body_of, wanted_of};
 
@@ -8,7 +10,7 @@ use refusals::Refusal;
 pub const LIMIT: usize = 65472;
 
 // What reading at a place finds.
-#[derive(Drop)]
+#[derive(Clone, Copy)]
 pub enum Found {
     // A whole record: its body is len bytes from start, and next is the place after it.
     Whole {

@@ -1,8 +1,10 @@
 // Document 01, 'Refusal numbers', and document 02: the refusals, one enum for all crates.
+#![tactic(auto)]
+
 ghost use Rattle.std.specs.Prelude.{◌≡◌, ◌<◌};
 ghost use Rattle.refusals.specs.Number.{number_of};
 
-#[derive(Drop)]
+#[derive(Clone, Copy)]
 pub enum Refusal {
     // more than 1,000,000 vector bytes or 825,000 line bytes; in a program, more than it gathers
     TooMuch,

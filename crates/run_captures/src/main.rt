@@ -1,4 +1,6 @@
 // Document 01, 'Capture records', run: the body of a record handed on to receiving or to sending.
+#![tactic(auto)]
+
 use captures::{RecordReceived, RecordSent, receive_record, send_record};
 use libc::STDOUT_FILENO;
 use receiving::Received;

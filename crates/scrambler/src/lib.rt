@@ -1,9 +1,11 @@
 // The scrambler and the descrambler, a block's payload at a time.
+#![tactic(auto)]
+
 ghost use Rattle.std.specs.Prelude.{◌≡◌, ◌<◌, ◌^◌};
 ghost use Rattle.scrambler.specs.Scrambler.{scrambled, history_after, descrambled, line_after, mirror};
 
 // A payload, scrambled or descrambled, and the last 58 payload bits on the line after it, the oldest at bit 0.
-#[derive(Drop)]
+#[derive(Clone, Copy)]
 pub struct Scrambled {
     pub word: u64,
     pub history: u64,

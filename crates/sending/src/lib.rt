@@ -1,4 +1,6 @@
 // Sending a list of vectors: document 01, 'Diagrams' (Transmit), 'Scrambler' and 'Vectors, words and line bits'.
+#![tactic(auto)]
+
 ghost use Rattle.std.specs.Prelude.{◌≡◌, ◌++◌, ◌*◌, ◌/◌, ◌%◌, ◌^◌, ◌<◌, ◌≤◌, length, drop};
 ghost use Rattle.transmit.specs.Send.{sent_line};
 ghost use Rattle.control_bytes.specs.Control.{Low};
@@ -16,7 +18,7 @@ use tables::edition_of;
 use transmit::Sender;
 
 // What sending returns: its end state, the number of its end diagram state, and how many vectors it replaced.
-#[derive(Drop)]
+#[derive(Clone, Copy)]
 pub struct Sending {
     pub state: u64,
     pub diagram: u64,
@@ -24,7 +26,7 @@ pub struct Sending {
 }
 
 // The answer: what sending returns, or a refusal and its place.
-#[derive(Drop)]
+#[derive(Clone, Copy)]
 pub enum Sent {
     Done(Sending),
     Refused(Refusal, usize),

@@ -1,5 +1,7 @@
 // The formats of blocks as constants. A control block is found by the low four bits of its type: they are another in each type, and 0 in none,
 // which is data. The match is read from constant tables: nothing is made anew at a call.
+#![tactic(auto)]
+
 ghost use Rattle.std.specs.Prelude.{◌<◌};
 ghost use Rattle.shapes.specs.Shapes.{Shapes};
 
@@ -8,7 +10,7 @@ use block::Class;
 // One format: its header and type, and for each character, a byte each, the place of its field (0 where that is the end) and its slot (see
 // `characters`). And a block of it with every code 0: the bits of its type and codes; how far its data octets stand above their lanes, and
 // those lanes; the octets of its other characters; its control bytes; its class.
-#[derive(Drop)]
+#[derive(Clone, Copy)]
 pub struct Shape {
     pub header: u64,
     pub first: u64,

@@ -1,4 +1,6 @@
 // What C lends to receiving beside a line and room for vectors: a summary and the counters, as words in byte slices.
+#![tactic(auto)]
+
 ghost use Rattle.std.specs.Prelude.{◌≡◌, ◌++◌, ◌≤◌, length, drop, replicate};
 ghost use Rattle.bits.specs.Bits.{bit, cut};
 ghost use Rattle.receiving.specs.Answer.{received};

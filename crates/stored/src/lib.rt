@@ -1,4 +1,6 @@
 // A state of a line that arrives in bursts, in lent bytes.
+#![tactic(auto)]
+
 ghost use Rattle.std.specs.Prelude.{◌≡◌, ◌≤◌, length, get_or};
 ghost use Rattle.lent_words.specs.Words.{yes};
 ghost use Rattle.stored.specs.Stored.{state_words, state_by, state_in, stored_in};

@@ -1,4 +1,6 @@
 // The types of blocks, their kinds, and the editions.
+#![tactic(auto)]
+
 ghost use Rattle.std.specs.Prelude.{◌≡◌, ◌<◌, get_or};
 ghost use Rattle.block.specs.Block.{edition_of, two_words, low_power, kind_for};
 ghost use Rattle.block.specs.Rows.{row};

@@ -1,4 +1,6 @@
 // How many error vectors and vectors of kind S there are among some vectors of a list.
+#![tactic(auto)]
+
 ghost use Rattle.std.specs.Prelude.{◌≡◌, ◌+◌, ◌*◌, ◌≤◌, length, get_or, take, drop};
 ghost use Rattle.control_bytes.specs.Control.{Low};
 ghost use Rattle.lent_words.specs.Words.{flag_word};
@@ -10,7 +12,7 @@ use encoding::lanes_at;
 use lent_words::flag;
 use vector_tests::{is_error, is_start};
 
-#[derive(Drop)]
+#[derive(Clone, Copy)]
 pub struct Tally {
     pub errors: u64,
     pub starts: u64,

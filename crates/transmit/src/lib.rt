@@ -1,5 +1,7 @@
 // One vector sent: the block of its state of the transmit diagram, scrambled after the one before. Document 01, 'Diagrams' (Transmit) and
 // 'Scrambler'.
+#![tactic(auto)]
+
 ghost use Rattle.std.specs.Prelude.{◌≡◌, ◌^◌, ◌<◌, ◌≤◌};
 ghost use Rattle.transmit.specs.Send.{replaced_in};
 ghost use Rattle.transmit.specs.Steps.{chosen_block, idle_coded, low_power_coded, Chooses, step_of, Scrambles, Goes};
@@ -12,7 +14,7 @@ use scrambler::{Scrambled, scramble, scramble_next};
 
 // Where sending stands: the state of the transmit diagram, the last 58 payload bits on the line, the oldest at bit 0, and how
 // many vectors were replaced.
-#[derive(Drop)]
+#[derive(Clone, Copy)]
 pub struct Sender {
     pub diagram: State,
     pub history: u64,
@@ -20,7 +22,7 @@ pub struct Sender {
 }
 
 // What goes out for one vector: its block before scrambling, the state of the diagram, and how many vectors are then replaced.
-#[derive(Drop)]
+#[derive(Clone, Copy)]
 struct Choice {
     block: Block,
     diagram: State,
@@ -28,7 +30,7 @@ struct Choice {
 }
 
 // One vector sent: the history before it, its payload before scrambling, its block as it goes on the line, and where sending then stands.
-#[derive(Drop)]
+#[derive(Clone, Copy)]
 pub struct Step {
     pub history: u64,
     pub plain: u64,

@@ -7,7 +7,7 @@ ghost use Rattle.receiving.specs.Loop.{tested_in};
 use receiving::{Held, Link};
 
 // What testing a block gives.
-#[derive(Drop)]
+#[derive(Clone, Copy)]
 pub struct Step {
     pub link: Link,
     pub held: Held,

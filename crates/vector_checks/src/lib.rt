@@ -1,4 +1,6 @@
 // The refusals that every call over a list of vectors begins with.
+#![tactic(auto)]
+
 ghost use Rattle.std.specs.Prelude.{◌≡◌};
 ghost use Rattle.refusals.specs.First.{first};
 ghost use Rattle.vector_checks.specs.Checks.{vector_checks, verdict_of};
@@ -7,7 +9,7 @@ use control_bytes::first_high;
 use refusals::Refusal;
 
 // What they come to: none applies; or a refusal and its place.
-#[derive(Drop)]
+#[derive(Clone, Copy)]
 pub enum Checked {
     Sound,
     Refused(Refusal, usize),

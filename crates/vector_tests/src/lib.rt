@@ -1,4 +1,6 @@
 // One vector, as an index counts it: document 02, 8/13.
+#![tactic(auto)]
+
 ghost use Rattle.std.specs.Prelude.{◌≡◌, ◌≤◌};
 ghost use Rattle.block.specs.Block.{two_words, is_s, is_error_vector};
 ghost use Rattle.vector_tests.specs.Tests.{of_kind_s};

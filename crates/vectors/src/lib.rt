@@ -1,10 +1,12 @@
 // A vector as the code holds it, and its ten bytes in a room.
+#![tactic(auto)]
+
 ghost use Rattle.std.specs.Prelude.{◌≡◌, ◌++◌, ◌+◌, ◌≤◌, length, take, drop};
 ghost use Rattle.vectors.specs.Vector.{vector_bytes};
 
 // A vector: two words, each a control byte and four lanes, lane 0 lowest. The control bytes stand together, so that no gap of three bytes is
 // copied with it.
-#[derive(Drop)]
+#[derive(Clone, Copy)]
 pub struct Vector {
     pub c0: u8,
     pub c1: u8,
