@@ -9,7 +9,7 @@ pub fn put(part: &[u8], room: &mut [u8], at: usize)
     requires { at + length part.now ≤ length room.old }
     ensures { room.new ≡ overlaid at part.now room.old }
 {
-    bytes::copy(part, &mut room[at..]);
+    room[at..at + part.len()].copy_from_slice(part);
 }
 
 // The same, and answers the place after them.

@@ -31,8 +31,8 @@ pub fn put(kind: usize, body: &[u8], room: &mut [u8])
         (kind % 256) as u8,
         (kind / 256) as u8,
     ];
-    bytes::copy(&head, room);
-    bytes::copy(body, &mut room[4..]);
+    room[..4].copy_from_slice(&head);
+    room[4..4 + n].copy_from_slice(body);
 }
 
 // The most bytes of a body that a writer keeps to.
