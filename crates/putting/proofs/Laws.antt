@@ -51,6 +51,11 @@ overlaid_part at part room l h e =
     let none : drop (length room - at) (drop at room) ≡ [] = drop_of_length-le (drop at room) {i = length room - at} (simp length-drop (omega arith)) in
     rw (e, all, none) (simp (append-nil, drop-drop, append_assoc))
 
+-- A whole part copied over as many bytes of the room is the room with the part put over it.
+pub overlaid_whole : (at n : ℕ) (part room l : List ℕ) → n ≡ length part → l ≡ part → put_mid at n room l ≡ overlaid at part room
+unfolding overlaid
+overlaid_whole at n part room l e f = rw (e, f) (simp (append_assoc, drop-drop))
+
 -- One text after another is both together.
 pub puts_on : (at k r : ℕ) (a b entry mid exit : List ℕ) → PutsText at a entry k mid → PutsText k b mid r exit → at + length a + length b ≤ length entry → PutsText at (a ++ b) entry r exit
 puts_on at k r a b entry mid exit p q h =

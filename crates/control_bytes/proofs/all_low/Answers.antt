@@ -14,7 +14,7 @@ pub joined-o-requires : goal.joined-o-requires
 joined-o-requires c = omega (arith, c.loop-at.invariant.groups, c.loop-at-test.true, c.requires)
 
 pub overflow_add-at : goal.overflow_add-at
-overflow_add-at c = record { fits = omega (arith, c.loop-at.invariant.groups, c.loop-at-test.true, c.requires, c.well-formed) }
+overflow_add-at c = record { fits = omega (arith, c.loop-at.invariant.groups, c.loop-at-test.true, c.requires, c.well_formed) }
 
 pub loop-at-preserved : goal.loop-at-preserved
 loop-at-preserved c = turn c.args.bytes.now c.loop-at.o c.joined-o.result c.loop-at.at c.requires c.loop-at-test.true c.loop-at.invariant c.joined-o.ensures

@@ -16,7 +16,7 @@ loop-i-preserved c =
     let loop = c.loop-i in
     let loop-test = c.loop-i-test in
     let store = c.store in
-    put_next _ _ pre _ _ _ loop-test.true store.ensures store.auto.0 loop.invariant
+    put_next _ _ pre _ _ _ loop-test.true store.ensures store.auto.room loop.invariant
 
 pub shape_of-summary : goal.shape_of-summary
 shape_of-summary c = c.loop-i.invariant.same

@@ -18,4 +18,4 @@ pub returns : goal.returns
 unfolding wanted_of
 returns c =
     let s = c.args.head.now in
-    (simp (le-ltb _ _ c.if-head-lt4.false, le-ltb body_limit (two_at s 0) (omega arith)) c.two-n.ensures.0, omega arith)
+    (simp (le-ltb _ _ c.if-head-lt4.false, le-ltb body_limit (two_at s 0) (omega arith)) c.two-n.ensures.value, omega arith)

@@ -1,0 +1,34 @@
+-- `vector_checks::check_vectors` meets its contract. Assumes nothing.
+use mathlib.Core.Path.{sym}
+use borrow.Author.Tests.{le-ltb, lt-ltb, eq-eqb, ne_eqb}
+use Rattle.refusals.specs.First.{first}
+use Rattle.vector_checks.proofs.check_vectors.Goals as goal
+
+pub returns-then-n-gt1000000 : goal.returns-then-n-gt1000000
+unfolding first
+returns-then-n-gt1000000 c = let a = lt-ltb _ _ c.if-n-gt1000000.true in simp a
+
+pub returns-then-n-ne0 : goal.returns-then-n-ne0
+unfolding first
+returns-then-n-ne0 c =
+    let a = le-ltb _ _ c.if-n-gt1000000.false in
+    let b = ne_eqb _ _ c.if-n-ne0.true in
+    simp (a, b)
+
+pub returns-then-high-n : goal.returns-then-high-n
+unfolding first
+returns-then-high-n c =
+    let a = le-ltb _ _ c.if-n-gt1000000.false in
+    let b = eq-eqb _ _ c.if-n-ne0.false in
+    let h = sym c.first_high-high.ensures in
+    let f = lt-ltb _ _ c.if-high-n.true in
+    simp (a, b, h, f)
+
+pub returns : goal.returns
+unfolding first
+returns c =
+    let a = le-ltb _ _ c.if-n-gt1000000.false in
+    let b = eq-eqb _ _ c.if-n-ne0.false in
+    let h = sym c.first_high-high.ensures in
+    let f = le-ltb _ _ c.if-high-n.false in
+    simp (a, b, h, f)
