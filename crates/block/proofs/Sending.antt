@@ -198,7 +198,7 @@ module _ (ed : Edition) where
       go true q e ih = record { place = 0; inside = omega arith; carry = is_true q; kind_is = cc; header_is = cc; payload_is = cc }
       go false q e ih =
           let w = ih e in
-          record { place = suc w.place; inside = omega arith; carry = w.carry; kind_is = w.kind-is; header_is = w.header_is; payload_is = w.payload-is }
+          record { place = suc w.place; inside = omega arith; carry = w.carry; kind_is = w.kind_is; header_is = w.header_is; payload_is = w.payload_is }
 
   module _ (v : List ℕ) (k : Kind) (h x : ℕ) (e : carrier ed v ≡ block k h x) where
     -- a header is 2 or 1, and a payload has 64 bits
@@ -216,7 +216,7 @@ module _ (ed : Edition) where
     unfolding carrier
     carrier_fits =
         let w = carrying formats v k h x e in
-        subst (λ (n : ℕ). n < 2 ^ 64) w.payload-is (payload_lt v (row w.place) (row_sound w.place w.inside) w.carry)
+        subst (λ (n : ℕ). n < 2 ^ 64) w.payload_is (payload_lt v (row w.place) (row_sound w.place w.inside) w.carry)
 
     -- a block that carries a vector is not of kind E
     pub carrier_kind_lem : k ≡ E → ⊥
@@ -224,7 +224,7 @@ module _ (ed : Edition) where
     carrier_kind_lem q =
         let w = carrying formats v k h x e in
         let t : T (not (is_error (row w.place).kind)) = every_at (λ f. not (is_error f.kind)) formats no_format w.place tt w.inside in
-        subst (λ (n : Kind). T (not (is_error n))) (w.kind-is ∙ q) (kind_for_lem (λ n. T (not (is_error n))) (row w.place) v tt t)
+        subst (λ (n : Kind). T (not (is_error n))) (w.kind_is ∙ q) (kind_for_lem (λ n. T (not (is_error n))) (row w.place) v tt t)
 
   -- ---- the round trip of one character
 
@@ -335,4 +335,4 @@ module _ (ed : Edition) where
   round_trip v k h x len byte low high e =
       let w = carrying formats v k h x e in
       let m = row_back v byte len low high w.place w.inside w.carry in
-      (ap₂ (kind_of ed) (sym w.header_is) (sym w.payload-is) ∙ m.0 ∙ w.kind-is, ap₂ (decoded ed) (sym w.header_is) (sym w.payload-is) ∙ m.1)
+      (ap₂ (kind_of ed) (sym w.header_is) (sym w.payload_is) ∙ m.0 ∙ w.kind_is, ap₂ (decoded ed) (sym w.header_is) (sym w.payload_is) ∙ m.1)

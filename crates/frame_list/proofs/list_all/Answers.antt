@@ -30,7 +30,7 @@ loop-r-preserved c =
     let args = c.args in
     let loop = c.loop-r in
     let between = c.between-r in
-    (lists_on args.bytes.now 0 0 args.list.now loop.r loop.list between.result between.new.1.0 loop.invariant.0 between.ensures.0, omega (arith, between.auto.1.0, loop.invariant.1))
+    (lists_on args.bytes.now 0 0 args.list.now loop.r loop.list between.result between.new.list loop.invariant.0 between.ensures.0, omega (arith, between.auto.list, loop.invariant.1))
 
 pub shape_of-list : goal.shape_of-list
 shape_of-list c = c.loop-r.invariant.1

@@ -24,4 +24,4 @@ returns-in-End c =
     let a = args in came_to _ _ a.used _ _ a.store.now _ judge-window2.result _ c.got-in-End-1.given.1 judge-window2.ensures
 
 pub returns-in-Failed : goal.returns-in-Failed
-returns-in-Failed c = read_failed _ _ _ _ _ _ c.requires.1 c.enum_told-1.is
+returns-in-Failed c = read_failed _ _ _ _ _ _ c.requires.1 c.in-Failed.is

@@ -23,10 +23,10 @@ put-requires c =
     omega (arith, n, e)
 
 pub returns-in-End : goal.returns-in-End
-returns-in-End c = ended _ _ _ _ _ c.requires (sym c.read.ensures ∙ ap answer_of c.enum_told-1.is)
+returns-in-End c = ended _ _ _ _ _ c.requires (sym c.read.ensures ∙ ap answer_of c.in-End.is)
 
 pub returns-in-Refused : goal.returns-in-Refused
-returns-in-Refused c = refuses _ _ _ _ _ c.requires _ _ (sym c.read.ensures ∙ ap answer_of c.why-1.is)
+returns-in-Refused c = refuses _ _ _ _ _ c.requires _ _ (sym c.read.ensures ∙ ap answer_of c.in-Refused.is)
 
 pub returns-else-left-len : goal.returns-else-left-len
 returns-else-left-len c =

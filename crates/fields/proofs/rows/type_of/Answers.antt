@@ -1,0 +1,55 @@
+-- `fields::rows::type_of` meets its contract: each number is compared with its rule.
+use mathlib.Core.Path.{ap, sym}
+use mathlib.Core.List.{[], ◌∷◌}
+use Prim.Native.Nat.{ℕ}
+use Rattle.block.specs.Rows.{row}
+use Rattle.fields.proofs.Told.{otherwise}
+use Rattle.fields.proofs.rows.type_of.Goals as goal
+
+pub returns-in-0 : goal.returns-in-0
+returns-in-0 c = ap (λ (r : ℕ). (row r).type) (sym c.in-0.is)
+
+pub returns-in-1 : goal.returns-in-1
+returns-in-1 c = ap (λ (r : ℕ). (row r).type) (sym c.in-1.is)
+
+pub returns-in-2 : goal.returns-in-2
+returns-in-2 c = ap (λ (r : ℕ). (row r).type) (sym c.in-2.is)
+
+pub returns-in-3 : goal.returns-in-3
+returns-in-3 c = ap (λ (r : ℕ). (row r).type) (sym c.in-3.is)
+
+pub returns-in-4 : goal.returns-in-4
+returns-in-4 c = ap (λ (r : ℕ). (row r).type) (sym c.in-4.is)
+
+pub returns-in-5 : goal.returns-in-5
+returns-in-5 c = ap (λ (r : ℕ). (row r).type) (sym c.in-5.is)
+
+pub returns-in-6 : goal.returns-in-6
+returns-in-6 c = ap (λ (r : ℕ). (row r).type) (sym c.in-6.is)
+
+pub returns-in-7 : goal.returns-in-7
+returns-in-7 c = ap (λ (r : ℕ). (row r).type) (sym c.in-7.is)
+
+pub returns-in-8 : goal.returns-in-8
+returns-in-8 c = ap (λ (r : ℕ). (row r).type) (sym c.in-8.is)
+
+pub returns-in-9 : goal.returns-in-9
+returns-in-9 c = ap (λ (r : ℕ). (row r).type) (sym c.in-9.is)
+
+pub returns-in-10 : goal.returns-in-10
+returns-in-10 c = ap (λ (r : ℕ). (row r).type) (sym c.in-10.is)
+
+pub returns-in-11 : goal.returns-in-11
+returns-in-11 c = ap (λ (r : ℕ). (row r).type) (sym c.in-11.is)
+
+pub returns-in-12 : goal.returns-in-12
+returns-in-12 c = ap (λ (r : ℕ). (row r).type) (sym c.in-12.is)
+
+pub returns-in-13 : goal.returns-in-13
+returns-in-13 c = ap (λ (r : ℕ). (row r).type) (sym c.in-13.is)
+
+pub returns-in-14 : goal.returns-in-14
+returns-in-14 c = ap (λ (r : ℕ). (row r).type) (sym c.in-14.is)
+
+pub returns-in_default : goal.returns-in_default
+returns-in_default c = otherwise (14 ∷ 13 ∷ 12 ∷ 11 ∷ 10 ∷ 9 ∷ 8 ∷ 7 ∷ 6 ∷ 5 ∷ 4 ∷ 3 ∷ 2 ∷ 1 ∷ 0 ∷ []) (λ (r : ℕ). (row r).type) 0xff 16 tt c.args.r c.requires c.in_default.in_default-own.rest
