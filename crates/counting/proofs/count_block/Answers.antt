@@ -59,4 +59,4 @@ returns-in-Bad c =
     let one-if = c.one_if in
     let class = c.in-Bad in
     counted_is args.c (tested_in args.h) _ _ one-if.ensures.0
-    (c.count_reason.ensures ∙ ap (reasoned _) (sym class.given.1 ∙ counted-as.ensures))
+    (c.count_reason.ensures ∙ ap (reasoned _) (sym class.is ∙ counted-as.ensures))

@@ -16,12 +16,12 @@ step s k is ends r e f = rw e (sym (by_tests_lem s is ends ∙ f))
 pub returns-then-on : goal.returns-then-on
 returns-then-on c =
     step c.args.s c.args.k D c.args.ends Data c.in-D.is
-    (ap (λ (b : Bool). cond b Data Error) (sym c.goes_on_lem.ensures ∙ c.if-on.true))
+    (ap (λ (b : Bool). cond b Data Error) (sym c.goes_on-on.ensures ∙ c.if-on.true))
 
 pub returns-else-on : goal.returns-else-on
 returns-else-on c =
     step c.args.s c.args.k D c.args.ends Error c.in-D.is
-    (ap (λ (b : Bool). cond b Data Error) (sym c.goes_on_lem.ensures ∙ c.if-on.false))
+    (ap (λ (b : Bool). cond b Data Error) (sym c.goes_on-on.ensures ∙ c.if-on.false))
 
 pub returns-then-may_begin : goal.returns-then-may_begin
 returns-then-may_begin c =
@@ -36,22 +36,22 @@ returns-else-may_begin c =
 pub returns-then-is_data : goal.returns-then-is_data
 returns-then-is_data c =
     step c.args.s c.args.k C c.args.ends Error c.in-C.is
-    (ap (λ (b : Bool). cond b Error Control) (sym c.is_data_lem.ensures ∙ c.if-is_data.true))
+    (ap (λ (b : Bool). cond b Error Control) (sym c.is_data.ensures ∙ c.if-is_data.true))
 
 pub returns-else-is_data : goal.returns-else-is_data
 returns-else-is_data c =
     step c.args.s c.args.k C c.args.ends Control c.in-C.is
-    (ap (λ (b : Bool). cond b Error Control) (sym c.is_data_lem.ensures ∙ c.if-is_data.false))
+    (ap (λ (b : Bool). cond b Error Control) (sym c.is_data.ensures ∙ c.if-is_data.false))
 
 pub returns-then-on-2 : goal.returns-then-on-2
 returns-then-on-2 c =
     step c.args.s c.args.k T c.args.ends Terminate c.in-T.is
-    (ap₂ (λ (b e : Bool). cond (b && e) Terminate Error) (sym c.goes_on_lem.ensures ∙ c.if-on-2.true) c.if-ends.true)
+    (ap₂ (λ (b e : Bool). cond (b && e) Terminate Error) (sym c.goes_on-on.ensures ∙ c.if-on-2.true) c.if-ends.true)
 
 pub returns-else-on-2 : goal.returns-else-on-2
 returns-else-on-2 c =
     step c.args.s c.args.k T c.args.ends Error c.in-T.is
-    (ap (λ (b : Bool). cond (b && c.args.ends) Terminate Error) (sym c.goes_on_lem.ensures ∙ c.if-on-2.false))
+    (ap (λ (b : Bool). cond (b && c.args.ends) Terminate Error) (sym c.goes_on-on.ensures ∙ c.if-on-2.false))
 
 pub returns-else-ends : goal.returns-else-ends
 returns-else-ends c =

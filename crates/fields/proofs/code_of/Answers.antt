@@ -26,7 +26,7 @@ returns-else-octet-eq254 c =
     let match = c.in-2 in
     let if1 = c.if-octet-eq254 in
     c.control_code-else-octet-eq254.ensures ∙ calm_code_lem args.edition args.octet pre if1.false
-    ∙ (ap (λ (n : ℕ). code_of args.edition (slot_of n) args.octet) (sym match.keys3))
+    ∙ (ap (λ (n : ℕ). code_of args.edition (slot_of n) args.octet) (sym match.is))
 
 pub returns-in-92 : goal.returns-in-92
 returns-in-92 c = ap (code_of c.args.edition Set) (sym c.in-92.is) ∙ (ap (λ (n : ℕ). code_of c.args.edition (slot_of n) c.args.octet) (sym c.in-3.is))

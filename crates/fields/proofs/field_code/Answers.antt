@@ -4,4 +4,4 @@ use Rattle.fields.proofs.Fields.{code_is}
 use Rattle.fields.proofs.field_code.Goals as goal
 
 pub returns : goal.returns
-returns c = c.code_of_lem.ensures ∙ code_is c.args.r c.args.i c.requires.0 c.requires.1 c.args.edition c.args.lanes c.fields_of.result c.fields_of.ensures
+returns c = c.code_of.ensures ∙ code_is c.args.r c.args.i c.requires.0 c.requires.1 c.args.edition c.args.lanes c.fields_of.result c.fields_of.ensures

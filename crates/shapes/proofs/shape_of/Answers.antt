@@ -1,6 +1,7 @@
 -- `shapes::shape_of` meets its contract: each shape is held to its format by computation.
 use mathlib.Core.Path.{refl, ap, sym}
-use Prim.Native.Nat.{◌<◌}
+use Prim.Native.Nat.{ℕ, ◌<◌}
+use native.Mathlib.Omega.{arith}
 use lib.Dec.{lit<}
 use Rattle.tables.proofs.Entries.{down}
 use Rattle.shapes.specs.Shapes.{type_by, plain, typed}
@@ -75,3 +76,7 @@ returns-in_default c = (
       c.in_default.in_default-own.rest.0.0.0.0.0.0.0.0.0.0.1) c.in_default.in_default-own.rest.0.0.0.0.0.0.0.0.0.0.0.1)
       c.in_default.in_default-own.rest.0.0.0.0.0.0.0.0.0.0.0.0.1) c.in_default.in_default-own.rest.0.0.0.0.0.0.0.0.0.0.0.0.0.1)
       c.in_default.in_default-own.rest.0.0.0.0.0.0.0.0.0.0.0.0.0.0.1)) refl (of_format refl refl refl tt tt tt),
+)
+  where
+    not_both : {n : ℕ} → 0 < n → n < 1 → ⊥
+    not_both l m = omega arith
