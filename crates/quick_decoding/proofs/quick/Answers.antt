@@ -15,6 +15,6 @@ overflow_cast-result-2 c = record { fits = omega (arith, made_lt c.shape_of-s.re
 pub returns : goal.returns
 returns c t ed =
     elim c.if-header-s.branch [
-      | inl a ↦ quickly c.args.header c.args.payload _ c.shape_of-s.result c.shape_of-s.ensures.1 a.0.taken (sym a.1 ∙ t) ed
-      | inr b ↦ absurd (b.0.left (eqb-true c.args.header c.shape_of-s.result.header (sym b.1 ∙ t)))
+      | goal.then-header-s a ↦ quickly c.args.header c.args.payload _ c.shape_of-s.result c.shape_of-s.ensures.1 a.if-header-s.true (sym a.result-is ∙ t) ed
+      | goal.else-header-s b ↦ absurd (b.if-header-s.false (eqb-true c.args.header c.shape_of-s.result.header (sym b.result-is ∙ t)))
     ]
