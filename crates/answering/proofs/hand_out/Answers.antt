@@ -13,6 +13,7 @@ use Rattle.receiving.proofs.Counted.{out_init, out_error, out_decoded}
 use Rattle.receiving.proofs.Settle.{as_decoded}
 use denote.Enum.Declared.{tag_of}
 use types.Run.{OneOf}
+use borrow.Enum.Refused.{opened}
 use Rattle.diagrams.specs.contracts.State as S
 use Rattle.answering.proofs.hand_out.Goals as goal
 
@@ -53,5 +54,5 @@ returns-in-Error c =
 pub returns-in-Control : goal.returns-in-Control
 unfolding tested_in
 returns-in-Control c =
-    let d = in_states c.args.s c.in-Control.in-Control-own.keys3 in
+    let d = in_states c.args.s (opened c.in-Control.in-Control-own.keys3) in
     (sym (as_decoded c.args.s _ d.0), c.count_vector-in-Control.ensures ∙ out_decoded c.args.n c.args.s (tested_in c.args.h) d.0 d.1)

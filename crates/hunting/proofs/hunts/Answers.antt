@@ -22,13 +22,13 @@ returns-then-is_init c =
     λ e.
     let w = c.no_window.ensures e in
     record {
-      skip = c.if-r.left;
-      none = omega (arith, c.if-carried-gt0.left);
-      have = c.if-r-2.taken;
-      off = c.if-held.left;
-      state = c.is_init.ensures c.if-is_init.taken;
-      locked = c.if-lock.left;
-      clean = omega (arith, c.if-lock-gt0.left);
+      skip = c.if-r.false;
+      none = omega (arith, c.if-carried-gt0.false);
+      have = c.if-r-2.true;
+      off = c.if-held.false;
+      state = c.is_init.ensures c.if-is_init.true;
+      locked = c.if-lock.false;
+      clean = omega (arith, c.if-lock-gt0.false);
       blocks = w.0;
       misses = w.1;
       low = w.2;
