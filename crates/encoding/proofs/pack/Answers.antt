@@ -31,7 +31,7 @@ placed-payload-requires c =
     (pre.0, loop-test.true, subst (λ (n : ℕ). n < 2 ^ (field_in args.r loop.i).bits) (s ∙ sym c.field_code-code.ensures) (room args.edition args.r v pre.0 loop.i loop-test.true h))
 
 -- one field more
-again : (c : goal.After-placed-payload invariant-loop decreases-loop)
+again : (c : goal.After-placed-payload)
     → Filled c.args.edition c.args.r
     (spread c.args.c0 c.args.c1
     c.args.lanes) (c.loop-i.i + 1)

@@ -3,4 +3,4 @@ use native.Mathlib.Omega.{arith}
 use Rattle.locked.proofs.groups_ahead.Goals as goal
 
 pub returns : goal.returns
-returns c = (omega (arith, c.smaller.ensures.0, c.pre.1), omega (arith, c.smaller.ensures.1, c.pre.2))
+returns c = (omega (arith, c.smaller.ensures.0, c.requires.1), omega (arith, c.smaller.ensures.1, c.requires.2))
