@@ -192,6 +192,7 @@ data NoFailure : Gathered → Type 0 where
 by_either : {g : Gathered} → Over g → NoFailure g → Concluded g
 by_either (ended b) s = by_end b
 by_either (stopped n b) s = by_refusal n b
+by_either (broken bytes) s = elim s [ ]
 
 module _ (limit kind most : ℕ) where
   -- From then on nothing changes.
@@ -337,6 +338,8 @@ module _ (limit : ℕ) where
     going_whole w bytes (whole k start len nx) e o =
         let i = inside limit w 0 k start len nx e in
         omega (arith, wanted_len limit w (omega (arith, i.fits, i.start_is)) (omega (arith, i.small, i.len_is)), i.fits, i.start_is, i.len_is)
+    going_whole w bytes end e o = elim o [ ]
+    going_whole w bytes (refused number place) e o = elim o [ ]
 
     -- So are all reads but the last, and the last is what was left.
     pub reads_are : (r : RecordRead) (rs : List RecordRead) {g : Gathered} → Going g → IsWindow limit r → InTurn limit kind most rs (next_read limit kind most r g)
@@ -356,6 +359,7 @@ module _ (limit : ℕ) where
     -- What they come to is what the definition says of the file that was read.
     pub file_read : (rs : List RecordRead) → InTurn limit kind most rs (more []) → Concluded (gathered_after limit kind most rs (more [])) → gathered_after limit kind most rs (more []) ≡ gathered_from limit kind most (bytes_read rs)
     unfolding gathered_after
+    file_read [] t s = elim s [ ]
     file_read (r ∷ rs) t s =
         let file = bytes_read (r ∷ rs) in
         let e : gathered_after limit kind most (r ∷ rs) (more []) ≡ gathering limit kind most (suc (length rs)) file 0 (more []) =
