@@ -38,5 +38,5 @@ returns c =
       summary_is args.edition args.line.now args.room.now fresh.result fresh.ensures pre.1 more.new.room more.result more.ensures
           last.result.alone last.result.handed last.ensures.2 last.ensures.1,
       room_is args.edition args.line.now args.room.now fresh.result fresh.ensures pre.1 more.new.room more.result more.ensures
-          last.new.0 last.ensures.0,
+          last.new.room last.ensures.0,
     )

@@ -3,7 +3,6 @@ use Prim.Native.Nat.{ℕ, ◌≤◌, ◌<◌}
 use mathlib.Core.Path.{◌≡◌, ◌∙◌}
 use mathlib.Core.Bool.{false}
 use mathlib.Core.List.{[]}
-use borrow.Author.Rules.{rules}
 use borrow.Author.Tests.{lt-ltb, le-ltb}
 use Rattle.bits.specs.Bits.{number}
 use Rattle.refusals.specs.First.{first}
@@ -15,8 +14,7 @@ use Rattle.receiving.specs.declared.Handed.{Handed}
 use Rattle.kept_state.specs.declared.Kept.{Kept}
 use Rattle.kept_state.specs.Meaning.{kept_for}
 use Rattle.bursts.specs.Burst.{begun, refused, state_fresh, begin_answer}
-use Rattle.bursts.proofs.begin.Statement.{statement}
-use Rattle.bursts.proofs.begin.Tie as tie
+use Rattle.bursts.proofs.begin.Goals as goal
 
 unknown : (edition : ℕ) → 1 < edition → refused 13 0 ≡ begin_answer edition
 unfolding begin_answer first
@@ -47,20 +45,8 @@ fresh : (edition : ℕ) (k : Kept) (c : Counts) (h : Handed) → k ≡ kept_for 
 unfolding number
 fresh edition k c h ek ec eh = rw (ek, ec, eh)
 
-returns : tie.Need-returns
-returns c = unknown c.before.args.edition c.if1.true
+pub returns-then-edition-gt1 : goal.returns-then-edition-gt1
+returns-then-edition-gt1 c = unknown c.args.edition c.if-edition-gt1.true
 
-no-block-requires : tie.Need-no-block-requires
-no-block-requires c κs = search rules
-
-no-counts-requires : tie.Need-no-counts-requires
-no-counts-requires c κs = search rules
-
-none-handed-requires : tie.Need-none-handed-requires
-none-handed-requires c κs = search rules
-
-returns-2 : tie.Need-returns-2
-returns-2 c = fresh c.before.before.before.before.args.edition _ _ _ c.before.before.no_block.ensures c.before.no-counts.ensures c.none-handed.ensures ∙ known c.before.before.before.before.args.edition c.before.before.before.if1.false
-
-pub begin_spec : {M : Type 1} → statement M
-begin_spec = tie.close (tie.spec returns no-block-requires no-counts-requires none-handed-requires returns-2)
+pub returns : goal.returns
+returns c = fresh c.args.edition _ _ _ c.no_block.ensures c.no_counts.ensures c.none_handed.ensures ∙ known c.args.edition c.if-edition-gt1.false
