@@ -10,7 +10,7 @@ use Rattle.block.specs.declared.Edition.{Edition}
 use Rattle.diagrams.specs.declared.State.{State}
 use Rattle.diagrams.specs.declared.State.TheVariants.{Init}
 use Rattle.receiving.specs.Machine.{Tested, Run, run, at, link_fresh}
-use Rattle.receiving.specs.Receive.{judge, answers, counts_of, run_of, vectors_of}
+use Rattle.receiving.specs.Receive.{judge, answers, ends, state_of, counts_of, run_of, vectors_of}
 use Rattle.receiving.specs.Answer.{summary_of}
 use Rattle.demands.specs.Words.{Unbroken}
 use Rattle.demands.proofs.Line.{line_bits_lem, AllFit}
@@ -21,7 +21,7 @@ use Rattle.demands.proofs.Lock.{FirstValid, invalids, Locks, lock_by_64}
 pub length_answers : (s : State) (ts : List Tested) → length (answers s ts) ≡ length ts
 unfolding answers judge
 length_answers s [] = refl
-length_answers s (t ∷ ts) = ap suc (length_answers _ ts)
+length_answers s (t ∷ ts) = ap suc (length_answers (state_of s t (ends ts)) ts)
 
 module _ (ed : Edition) (bs : List Block) (groups : ℕ) (fits : AllFit bs) (four : length bs ≡ 4 * groups)
     (first : FirstValid 64 (valids bs)) (few : invalids (valids bs) < 16) where

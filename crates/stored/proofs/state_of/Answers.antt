@@ -10,4 +10,4 @@ returns c =
     let is-yes3 = c.is_yes-3 in
     let is-yes4 = c.is_yes-4 in
     let is-yes5 = c.is_yes-5 in
-    state_is args.t1 _ _ _ _ _ _ is_yes.ensures is-yes2.ensures is-yes3.ensures is-yes4.ensures is-yes5.ensures c.is_yes-6.ensures
+    state_is args.w _ _ _ _ _ _ is_yes.ensures is-yes2.ensures is-yes3.ensures is-yes4.ensures is-yes5.ensures c.is_yes-6.ensures
