@@ -12,7 +12,7 @@ use Rattle.block.proofs.Vectors.{length_vectors}
 use Rattle.transmit.proofs.Laws.{length_blocks}
 use Rattle.bits.specs.Bits.{bit, total, stream_bit, cut}
 use Rattle.bits.proofs.Laws.{bit_lt, length_cut, odd_exactly}
-use Rattle.scrambler.specs.Scrambler.{mirror}
+use Rattle.scrambler.specs.Scrambler.{history_after, mirror}
 use Rattle.scrambler.proofs.Laws.{mirror_lt}
 use Rattle.line.specs.declared.Block.{Block}
 use Rattle.line.specs.BlockNumber.{block_number}
@@ -53,7 +53,7 @@ on_line_lem : (h : ℕ) (bs : List Block) (z : Block) (k : ℕ) → k < length b
 unfolding line_blocks
 on_line_lem h [] z k l = absurd (omega arith)
 on_line_lem h (b ∷ bs) z zero l = refl
-on_line_lem h (b ∷ bs) z (suc k) l = on_line_lem _ bs z k (omega arith)
+on_line_lem h (b ∷ bs) z (suc k) l = on_line_lem (history_after b.payload h) bs z k (omega arith)
 
 -- no block
 abbrev untested : Tested

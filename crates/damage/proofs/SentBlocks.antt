@@ -15,6 +15,7 @@ use Rattle.block.proofs.Sending.{carrier_header, carrier_fits, round_trip}
 use Rattle.diagrams.specs.Diagram.{transmit_of}
 use Rattle.diagrams.specs.declared.State.{State}
 use Rattle.diagrams.specs.declared.State.TheVariants.{Init, Control, Data, Terminate, Error, LowPower}
+use Rattle.scrambler.specs.Scrambler.{history_after}
 use Rattle.transmit.specs.Send.{error_block, own_block, block_in, sent_blocks}
 use Rattle.demands.proofs.Octets.{octets}
 use Rattle.demands.proofs.Sent.{Vector, Vectors}
@@ -86,4 +87,4 @@ module _ (ed : Edition) where
   pub line_headers : (h : ℕ) (bs : List Block) → AllSent bs → Headers (line_blocks h bs)
   unfolding line_blocks
   line_headers h [] a = tt
-  line_headers h (b ∷ bs) a = (a.0.header_is, line_headers _ bs a.1)
+  line_headers h (b ∷ bs) a = (a.0.header_is, line_headers (history_after b.payload h) bs a.1)

@@ -15,15 +15,15 @@ pub load_counters-before-requires : goal.load_counters-before-requires
 load_counters-before-requires c =
     let args = c.args in
     let pre = c.requires in
-    let answer = c.answer-1 in
-    (found_fits _ _ (length args.summary.now) (length args.counters.now) answer.given.1 pre.1).1
+    let answer = c.in-Done in
+    (found_fits _ _ (length args.summary.now) (length args.counters.now) answer.is pre.1).1
 
 pub store_counters-requires : goal.store_counters-requires
 store_counters-requires c =
     let args = c.args in
     let pre = c.requires in
-    let answer = c.answer-1 in
-    (found_fits _ _ (length args.summary.now) (length args.counters.now) answer.given.1 pre.1).1
+    let answer = c.in-Done in
+    (found_fits _ _ (length args.summary.now) (length args.counters.now) answer.is pre.1).1
 
 pub refusal-requires : goal.refusal-requires
 refusal-requires c =
@@ -36,17 +36,17 @@ pub returns-in-Done : goal.returns-in-Done
 returns-in-Done c =
     let args = c.args in
     let pre = c.requires in
-    let answer = c.answer-1 in
+    let answer = c.in-Done in
     let store-state = c.store_state in
     let put-summary = c.put_summary in
     let load-counters = c.load_counters-before in
     let add-counts = c.add_counts in
     let store-counters = c.store_counters in
-    found_left args.r.state args.r.added args.state.now args.summary.now args.counters.now 0 _ _ _ _ _ answer.given.1 (
+    found_left args.r.state args.r.added args.state.now args.summary.now args.counters.now 0 _ _ _ _ _ answer.is (
       refl,
       store-state.ensures,
-      put_is answer.given.0.0 args.summary.now _
-          (found_fits _ _ (length args.summary.now) (length args.counters.now) answer.given.1 pre.1).0 put-summary.ensures,
+      put_is answer.s args.summary.now _
+          (found_fits _ _ (length args.summary.now) (length args.counters.now) answer.is pre.1).0 put-summary.ensures,
       added_to
           args.counters.now _ load-counters.result add-counts.result args.r.added.counts args.r.added.handed load-counters.ensures
           add-counts.ensures store-counters.ensures,
