@@ -2,7 +2,7 @@
 # make demo       a small capture is sent, damaged and read back, also in bursts, in plain words
 # make test       the gate: every proof, every must-fail edit, every program and every outside check
 # make native     target/native/libholzmotte.a for the machine at hand
-# make targets    the same for Android and Apple on 64-bit Arm: target/native/TARGET/libholzmotte.a, compiled and not run
+# make targets    the same for 64-bit Arm, Linux, Android and Apple: target/native/TARGET/libholzmotte.a, compiled and not run
 # make install    header, archive, shared library and pkg-config file, below $DESTDIR$PREFIX (PREFIX: /usr/local)
 # make uninstall  takes them away
 # make compare, make ctest, make examples, make rust, make same: one outside check alone

@@ -32,11 +32,20 @@ static void put(const char *bytes, size_t count) { linux_call(64, 1, bytes, coun
 static void end(void) { linux_call(93, 0, 0, 0); }
 #endif
 
-/* A compiler may write calls of these two. */
+/* A compiler may write calls of these three. */
 void *memcpy(void *to, const void *from, size_t count)
 {
     for (size_t i = 0; i < count; i++)
         ((uint8_t *)to)[i] = ((const uint8_t *)from)[i];
+    return to;
+}
+
+void *memmove(void *to, const void *from, size_t count)
+{
+    if ((uint64_t)to <= (uint64_t)from)
+        return memcpy(to, from, count);
+    while (count-- > 0)
+        ((uint8_t *)to)[count] = ((const uint8_t *)from)[count];
     return to;
 }
 

@@ -52,10 +52,10 @@ def started(command, **options):
         end(session)
 
 
-def run(command, hear):
+def run(command, hear, **options):
     """Runs a command, hands each line that it says to `hear`, at once, and gives its status."""
     said = {"stdout": subprocess.PIPE, "stderr": subprocess.STDOUT, "text": True, "errors": "replace"}
-    with started(command, stdin=subprocess.DEVNULL, **said) as session:
+    with started(command, stdin=subprocess.DEVNULL, **said, **options) as session:
         for line in session.stdout:
             hear(line)
         return session.wait()
@@ -71,8 +71,17 @@ def program(main):
 
 
 def is_progress(line):
-    """Of what `rt` says: a crate that it just proved, a program that it ran, and the end."""
-    return line.startswith("rt: ") and "(unchanged " not in line
+    """Of what `rt` says: a crate that it begins to prove, and what it goes on from."""
+    return line.startswith("rt: ")
+
+
+def mark_checked(name, began):
+    """A good check of a program began at this time: the file target/checked/NAME has it, and tools/fresh looks."""
+    os.makedirs("target/checked", exist_ok=True)
+    new = f"target/checked/{name}.{os.getpid()}"
+    open(new, "w").close()
+    os.utime(new, ns=(began, began))
+    os.replace(new, f"target/checked/{name}")
 
 
 def need(*programs):

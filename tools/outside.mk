@@ -5,7 +5,7 @@ NATIVE := target/native/libholzmotte.a
 
 native: $(NATIVE)
 
-$(NATIVE): tools/native crates.txt $(shell find crates -name '*.rt' -o -name '*.antt')
+$(NATIVE): tools/native crates.txt $(shell find crates -path 'crates/*/out' -prune -o \( -name '*.rt' -o -name '*.antt' \) -print)
 	tools/native
 
 targets rust same: $(NATIVE)

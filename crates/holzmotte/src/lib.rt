@@ -24,8 +24,7 @@ fn send_short(edition: u64, vectors: &[u8], start: u64) -> u64
 }
 
 // Sends a list of vectors: the line's bytes go to the start of the room, three words to the summary.
-#[unsafe(no_mangle)]
-pub extern "C" fn holzmotte_send(
+pub fn holzmotte_send(
     edition: u64,
     vectors: &[u8],
     start: u64,
@@ -61,8 +60,7 @@ fn receive_short(edition: u64, line: &[u8]) -> u64
 }
 
 // Receives a line: a vector for each tested block goes to the room, twelve words to the summary, and what was counted is added to the counters.
-#[unsafe(no_mangle)]
-pub extern "C" fn holzmotte_receive(
+pub fn holzmotte_receive(
     edition: u64,
     line: &[u8],
     vectors: &mut [u8],

@@ -14,8 +14,7 @@ use slices::{clear, load_counters, put_summary, short_slice, store_counters};
 use stored::{load_state, store_state};
 
 // A fresh state of an edition (0 old, 1 new) in lent bytes.
-#[unsafe(no_mangle)]
-pub extern "C" fn holzmotte_begin(edition: u64, state: &mut [u8]) -> u64
+pub fn holzmotte_begin(edition: u64, state: &mut [u8]) -> u64
     ensures { BeginsThroughC edition state.old result state.new }
 {
     match begin(edition) {
@@ -85,8 +84,7 @@ fn called(
 
 // One more part of a line: vectors to the room, twelve words to the summary, and the state after it in the state's bytes; what was counted
 // is added to the counters.
-#[unsafe(no_mangle)]
-pub extern "C" fn holzmotte_burst(
+pub fn holzmotte_burst(
     state: &mut [u8],
     line: &[u8],
     vectors: &mut [u8],
@@ -99,8 +97,7 @@ pub extern "C" fn holzmotte_burst(
 }
 
 // The closing call: the last vector to the room, and the rest as a burst does.
-#[unsafe(no_mangle)]
-pub extern "C" fn holzmotte_close(
+pub fn holzmotte_close(
     state: &mut [u8],
     vectors: &mut [u8],
     summary: &mut [u8],

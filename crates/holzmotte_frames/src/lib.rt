@@ -29,8 +29,7 @@ fn frames_short(vectors: &[u8]) -> u64
 }
 
 // Lists the frames of a list of vectors: 12 bytes a frame to the start of the list, and their number to the summary.
-#[unsafe(no_mangle)]
-pub extern "C" fn holzmotte_frames(vectors: &[u8], list: &mut [u8], summary: &mut [u8]) -> u64
+pub fn holzmotte_frames(vectors: &[u8], list: &mut [u8], summary: &mut [u8]) -> u64
     ensures { ListsThroughC vectors.now list.old summary.old result list.new summary.new }
 {
     if summary.len() < 8 {

@@ -9,8 +9,7 @@ use index_search::{Found, find_error};
 use lent_words::{refusal, told};
 
 // Builds the index of a list of vectors, which fills the lent slice.
-#[unsafe(no_mangle)]
-pub extern "C" fn holzmotte_index(vectors: &[u8], index: &mut [u8]) -> u64
+pub fn holzmotte_index(vectors: &[u8], index: &mut [u8]) -> u64
     ensures { IndexesThroughC vectors.now index.old result index.new }
 {
     match build(vectors, index) {
@@ -20,14 +19,7 @@ pub extern "C" fn holzmotte_index(vectors: &[u8], index: &mut [u8]) -> u64
 }
 
 // Counts error vectors and vectors of kind S, from vector a up to but not vector b: two words to the summary.
-#[unsafe(no_mangle)]
-pub extern "C" fn holzmotte_count(
-    vectors: &[u8],
-    index: &[u8],
-    a: u64,
-    b: u64,
-    summary: &mut [u8],
-) -> u64
+pub fn holzmotte_count(vectors: &[u8], index: &[u8], a: u64, b: u64, summary: &mut [u8]) -> u64
     ensures { CountsThroughC vectors.now index.now a b summary.old result summary.new }
 {
     match count(vectors, index, a, b) {
@@ -40,13 +32,7 @@ pub extern "C" fn holzmotte_count(
 }
 
 // Finds the n-th error vector, n from 1: its number and the entries read to the summary.
-#[unsafe(no_mangle)]
-pub extern "C" fn holzmotte_find_error(
-    vectors: &[u8],
-    index: &[u8],
-    n: u64,
-    summary: &mut [u8],
-) -> u64
+pub fn holzmotte_find_error(vectors: &[u8], index: &[u8], n: u64, summary: &mut [u8]) -> u64
     ensures { FindsThroughC vectors.now index.now n summary.old result summary.new }
 {
     match find_error(vectors, index, n) {

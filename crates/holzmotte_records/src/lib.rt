@@ -8,8 +8,7 @@ use record_writing::{Written, write};
 use records::{Found, read};
 
 // Reads the record whose head is at a place of a file: five words to the summary.
-#[unsafe(no_mangle)]
-pub extern "C" fn holzmotte_read_record(file: &[u8], place: u64, summary: &mut [u8]) -> u64
+pub fn holzmotte_read_record(file: &[u8], place: u64, summary: &mut [u8]) -> u64
     ensures { ReadsThroughC file.now place summary.old result summary.new }
 {
     match read(file, place as usize) {
@@ -31,8 +30,7 @@ pub extern "C" fn holzmotte_read_record(file: &[u8], place: u64, summary: &mut [
 }
 
 // Writes a record to the start of the room.
-#[unsafe(no_mangle)]
-pub extern "C" fn holzmotte_write_record(kind: u64, body: &[u8], wide: u64, room: &mut [u8]) -> u64
+pub fn holzmotte_write_record(kind: u64, body: &[u8], wide: u64, room: &mut [u8]) -> u64
     ensures { WritesThroughC kind body.now wide room.old result room.new }
 {
     match write(kind as usize, body, wide != 0, room) {
