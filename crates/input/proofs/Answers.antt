@@ -1,10 +1,6 @@
 -- What one read's answer says, by the tests of the code.
 use Prim.Native.Nat.{ℕ, zero, suc, ◌≤◌, ◌<◌, min}
-use mathlib.Core.List.{[], ◌∷◌}
-use types.Run.{OneOf, miss}
-use denote.Enum.Declared.{tag_of}
 use Rattle.gather.specs.Gather.{count_of}
-use Rattle.gather.specs.contracts.Got.{the_type}
 use mathlib.Core.Path.{◌≡◌, refl, sym, ap, ◌∙◌}
 use mathlib.Core.Bool.{true, false, false≢true}
 use native.Mathlib.Omega.{arith}
@@ -60,8 +56,8 @@ pub came_bytes : (n k : ℕ) (got : Got) → OneRead n got → got ≡ Came.Byte
 came_bytes n k got r e = some_bytes r.answer n k (sym e ∙ r.by_answer)
 
 -- Where it gave no bytes: it is counted behind those that were there, and all were not there.
-pub came_none : (n m done : ℕ) (got : Got) → OneRead m got → OneOf (1 ∷ 2 ∷ []) (tag_of the_type got) → done < n → InAll n (behind done got) × (count_of got ≡ 0)
+pub came_none : (n m done : ℕ) (got : Got) → OneRead m got → ((k : ℕ) → got ≡ Came.Bytes k → ⊥) → done < n → InAll n (behind done got) × (count_of got ≡ 0)
 unfolding InAll behind
-came_none n m done (Came.Bytes k) r o h = absurd (miss (1 ∷ 2 ∷ []) 0 tt o)
+came_none n m done (Came.Bytes k) r o h = absurd (o k refl)
 came_none n m done (Came.End k) r o h = let z = no_bytes r.answer m k r.by_answer in (omega arith, z)
 came_none n m done Came.Failed r o h = (tt, refl)

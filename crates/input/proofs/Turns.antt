@@ -5,8 +5,6 @@ use mathlib.Core.List.{List, [], ◌∷◌, ◌++◌}
 use native.Mathlib.Omega.{arith}
 use lib.ListN.{length, take, length-append}
 use lib.Seq.{length-take-le}
-use types.Run.{OneOf, miss}
-use denote.Enum.Declared.{tag_of}
 use Rattle.putting.specs.Overlaid.{overlaid}
 use Rattle.putting.proofs.Laws.{overlaid_none, overlaid_length, overlaid_over, overlaid_take}
 use Rattle.records.specs.Record.{body_limit}
@@ -15,7 +13,6 @@ use Rattle.gather.specs.File.{gathered_after, Going, on, InTurn}
 use Rattle.gather.specs.declared.Got.{Got}
 use Rattle.gather.specs.declared.Step.{Step}
 use Rattle.gather.specs.declared.Step.TheVariants as Case
-use Rattle.gather.specs.contracts.Step.{the_type}
 use Rattle.gather.proofs.File.{after_one, in_turn_one}
 use Rattle.gather.proofs.Judged.{grows}
 use Rattle.input.specs.Read.{WindowIn, Gathers}
@@ -43,9 +40,9 @@ still_more (done b) n e = absurd (let z : ◌≡◌ {A = ℕ} 0 1 = cc in omega 
 still_more (stop k b) n e = absurd (let z : ◌≡◌ {A = ℕ} 0 1 = cc in omega arith)
 still_more (failed b) n e = absurd (let z : ◌≡◌ {A = ℕ} 0 1 = cc in omega arith)
 
--- The other cases of a step have the tags 1, 2 and 3.
-pub no_more : (step : Step) → OneOf (1 ∷ 2 ∷ 3 ∷ []) (tag_of the_type step) → (n : ℕ) → turn_of step ≡ so_far n → ⊥
-no_more (Case.More m) o n e = miss (1 ∷ 2 ∷ 3 ∷ []) 0 tt o
+-- The other cases of a step say that no more come.
+pub no_more : (step : Step) → ((m : ℕ) → step ≡ Case.More m → ⊥) → (n : ℕ) → turn_of step ≡ so_far n → ⊥
+no_more (Case.More m) o n e = o m refl
 no_more (Case.Done m) o n e = absurd (let z : ◌≡◌ {A = ℕ} 0 1 = cc in omega arith)
 no_more (Case.Refused why) o n e = absurd (let z : ◌≡◌ {A = ℕ} 0 1 = cc in omega arith)
 no_more Case.Failed o n e = absurd (let z : ◌≡◌ {A = ℕ} 0 1 = cc in omega arith)
@@ -66,7 +63,7 @@ module _ (kind used turns : ℕ) (entry store exit : List ℕ) (step : Step) (go
 
   -- They were made in turn.
   turned : InTurn body_limit kind (length entry) made (more [])
-  turned = in_turn_one body_limit kind (length entry) g.reads r (more []) g.in-turn (subst Going (sym g.held) (on (take used store))) (is_window buffer got w)
+  turned = in_turn_one body_limit kind (length entry) g.reads r (more []) g.in_turn (subst Going (sym g.held) (on (take used store))) (is_window buffer got w)
 
   -- They give that.
   joined : gathered_after body_limit kind (length entry) made (more []) ≡ then
@@ -115,7 +112,7 @@ pub turns_up : (kind used turns : ℕ) (entry store : List ℕ) → SoFar kind e
 turns_up kind used turns entry store g z =
     record {
       reads = g.reads;
-      in_turn = g.in-turn;
+      in_turn = g.in_turn;
       shows = (ap so_far (sym (length-take-le used store g.fits)) ∙ ap turn_in (sym g.held), g.kept ∙ ap (λ (x : Gathered). overlaid 0 (bytes_in x) entry) (sym g.held));
       many = λ n e. omega (arith, g.count);
     }

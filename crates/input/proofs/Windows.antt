@@ -1,18 +1,15 @@
 -- Reading a window: the head, then what it asks for.
 use Prim.Native.Nat.{ℕ, ◌+◌, ◌≤◌}
-use mathlib.Core.Path.{◌≡◌, sym, ap, subst, ◌∙◌}
-use mathlib.Core.List.{List, [], ◌∷◌}
+use mathlib.Core.Path.{◌≡◌, refl, sym, ap, subst, ◌∙◌}
+use mathlib.Core.List.{List}
 use native.Mathlib.Omega.{arith}
 use lib.ListN.{length, take}
 use lib.Seq.{length-take-le, take-take, take_all}
-use types.Run.{OneOf, miss}
-use denote.Enum.Declared.{tag_of}
 use Rattle.records.specs.Record.{body_limit, wanted_of}
 use Rattle.gather.specs.Gather.{read_of, count_of}
 use Rattle.gather.specs.File.{record_window, IsWindow}
 use Rattle.gather.specs.declared.Got.{Got}
 use Rattle.gather.specs.declared.Got.TheVariants as Came
-use Rattle.gather.specs.contracts.Got.{the_type}
 use Rattle.input.specs.Read.{behind, InAll, OnlyAt, WindowIn}
 
 -- All n bytes came.
@@ -28,9 +25,9 @@ most_came n (Came.End k) i = omega (arith, i)
 most_came n Came.Failed i = omega arith
 
 -- The input ended in the head, or a read failed there.
-pub no_head : (buffer : List ℕ) (n : ℕ) (got : Got) → InAll n got → n ≤ 4 → length buffer ≡ 65476 → OneOf (1 ∷ 2 ∷ []) (tag_of the_type got) → WindowIn buffer got
+pub no_head : (buffer : List ℕ) (n : ℕ) (got : Got) → InAll n got → n ≤ 4 → length buffer ≡ 65476 → ((k : ℕ) → got ≡ Came.Bytes k → ⊥) → WindowIn buffer got
 unfolding InAll WindowIn
-no_head buffer n (Came.Bytes k) i h l o = absurd (miss (1 ∷ 2 ∷ []) 0 tt o)
+no_head buffer n (Came.Bytes k) i h l o = absurd (o k refl)
 no_head buffer n (Came.End k) i h l o = (omega (arith, i), omega (arith, i))
 no_head buffer n Came.Failed i h l o = tt
 

@@ -1,4 +1,4 @@
-// Gathering the records of a file descriptor. What is read is the operating system's to say: the promises say that there are reads,
+// Gathering the records of a reader. What is read is the operating system's to say: the promises say that there are reads,
 // window by window, for which the outcome and the store are those of the definition.
 #![tactic(auto)]
 
@@ -7,6 +7,7 @@ ghost use Rattle.gather.specs.Gather.{count_of};
 ghost use Rattle.input.specs.Read.{got_by, behind, OneRead, InAll, OnlyAt, WindowIn, Gathers};
 
 use gather::{Got, Step};
+use std::io::Read;
 
 // What one read of n bytes came to, by its answer.
 fn told(answer: isize, n: usize) -> Got
@@ -37,23 +38,26 @@ fn counted(before: usize, got: Got) -> Got
     }
 }
 
-// One read.
-fn read_part(fd: i32, part: &mut [u8]) -> Got
+// One read: its answer is how many bytes came, or a number below 0 where it failed.
+fn read_part<R: Read>(reader: &mut R, part: &mut [u8]) -> Got
     ensures { OneRead (length part.old) result }
 {
-    let answer = libc::read(fd, part);
+    let answer = match reader.read(part) {
+        Ok(n) => n as isize,
+        Err(_) => -1,
+    };
     told(answer, part.len())
 }
 
 // Reads n bytes to a place of a buffer, or as many as the input has.
-fn read_at(fd: i32, buf: &mut [u8], at: usize, n: usize) -> Got
+fn read_at<R: Read>(reader: &mut R, buf: &mut [u8], at: usize, n: usize) -> Got
     requires { at + n ≤ length buf.old }
     ensures in_all { InAll n result }
     ensures only_at { OnlyAt at n buf.old buf.new }
 {
     let mut done = 0;
     while done < n {
-        let got = read_part(fd, &mut buf[at + done..at + n]);
+        let got = read_part(reader, &mut buf[at + done..at + n]);
         let Got::Bytes(k) = got else {
             return counted(done, got);
         };
@@ -63,28 +67,28 @@ fn read_at(fd: i32, buf: &mut [u8], at: usize, n: usize) -> Got
 }
 
 // Reads the window of one record: the head, then as much of a body as the head asks for.
-fn read_window(fd: i32, window: &mut [u8]) -> Got
+fn read_window<R: Read>(reader: &mut R, window: &mut [u8]) -> Got
     requires { length window.old ≡ 65476 }
     ensures { WindowIn window.new result }
 {
-    let head = read_at(fd, window, 0, 4);
+    let head = read_at(reader, window, 0, 4);
     let Got::Bytes(h) = head else {
         return head;
     };
     let more = records::wanted(&window[..h]);
-    counted(h, read_at(fd, window, h, more))
+    counted(h, read_at(reader, window, h, more))
 }
 
 // All records, up to the end of the input, a refusal or a failed read. A proved loop has to end, and nothing says that the input does: so
 // it counts its turns down from a number that no run uses up.
-pub fn gathered(fd: i32, kind: usize, store: &mut [u8]) -> Step
+pub fn gathered<R: Read>(reader: &mut R, kind: usize, store: &mut [u8]) -> Step
     ensures { Gathers kind store.old result store.new }
 {
     let mut window = [0u8; 65476];
     let mut used = 0;
     let mut turns = u64::MAX;
     while turns > 0 {
-        let got = read_window(fd, &mut window);
+        let got = read_window(reader, &mut window);
         let step = gather::judge(got, &window, kind, store, used);
         let Step::More(n) = step else {
             return step;
