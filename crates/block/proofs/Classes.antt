@@ -13,7 +13,6 @@ use Rattle.block.specs.declared.Kind.{Kind}
 use Rattle.block.specs.declared.Kind.TheVariants.{D, C, S, T as T', E, LI}
 use Rattle.block.specs.declared.Reason.TheVariants.{Header, BlockType, ControlCode, SetCode}
 use Rattle.block.specs.declared.Class.{Class}
-use Rattle.block.specs.declared.Class.TheVariants as Class
 use Rattle.block.specs.Block.{Format, no_format, data_block, control_blocks, by_type, kind_for, vector_of, kind_by, kind_of, some, says, good, class_by, class_of, kind_in}
 use Rattle.block.specs.Rows.{row, row_of, index_of}
 use Rattle.refusals.proofs.Laws.{by_test}

@@ -12,7 +12,6 @@ use Rattle.block.specs.declared.Kind.TheVariants.{D, C, S, T, E, LI}
 use Rattle.block.specs.declared.Reason.{Reason}
 use Rattle.block.specs.declared.Reason.TheVariants.{Header, BlockType, ControlCode, SetCode}
 use Rattle.block.specs.declared.Class.{Class}
-use Rattle.block.specs.declared.Class.TheVariants as Class
 
 -- "A word is five bytes: a control byte .., then lanes 0 to 3", here with the lanes as one number, lane 0 lowest. "A vector is two words".
 abbrev pub word : ℕ → ℕ → List ℕ

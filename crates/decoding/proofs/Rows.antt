@@ -12,7 +12,6 @@ use Rattle.block.specs.declared.Edition.{Edition}
 use Rattle.block.specs.declared.Edition.TheVariants.{New}
 use Rattle.block.specs.declared.Reason.TheVariants.{Header, BlockType, ControlCode, SetCode}
 use Rattle.block.specs.declared.Class.{Class}
-use Rattle.block.specs.declared.Class.TheVariants as Class
 use Rattle.block.specs.Block.{word, two_words, Format, no_format, data_block, octet_at, flags_at, by_type, control_blocks, format_of, kind_for, vector_of, error_vector, decoded_by, decoded, good, class_by, class_of}
 use Rattle.block.specs.Rows.{row, row_of, index_of}
 use Rattle.block.proofs.Formats.{flags_lt, row_sound, row_format, row_none}

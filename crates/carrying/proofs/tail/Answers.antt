@@ -1,7 +1,6 @@
 -- `carrying::tail` meets its contract. The loop's invariant: the word holds the bytes from byte i on. Assumes nothing.
 use mathlib.Core.Path.{◌≡◌, refl, ap, ◌∙◌}
 use native.Mathlib.Omega.{arith}
-use Prim.Native.Nat.{◌-◌}
 use Rattle.carrying.proofs.Reading.{bytes_from, tail_none, tail_lt, tail_more}
 use Rattle.carrying.proofs.tail.Goals as goal
 

@@ -1,6 +1,5 @@
 -- `control_bytes::all_low` meets its contract. The loop's invariant: a bit that is 0 in what is laid one over the other is 0 in each group so
 -- far. Assumes nothing.
-use Prim.Native.Nat.{◌-◌}
 use native.Mathlib.Omega.{arith}
 use borrow.Author.Tests.{eqb-true}
 use Rattle.bits.specs.Bits.{bit, stream_bit}

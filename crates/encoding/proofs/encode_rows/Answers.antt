@@ -1,5 +1,4 @@
 -- `encoding::encode_rows` meets its contract: the rows with the control bits of the vector are tried in turn.
-use Prim.Native.Nat.{◌-◌}
 use native.Mathlib.Omega.{arith}
 use Rattle.fields.specs.Parts.{spread}
 use Rattle.fields.proofs.Choosing.{first_try, next_try, next_gt, tried, none_tried, not_tried}

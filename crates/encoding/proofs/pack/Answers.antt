@@ -1,6 +1,6 @@
 -- `encoding::pack` meets its contract: the fields are filled one after the other.
 use mathlib.Core.Path.{◌∙◌, ap, sym, subst}
-use Prim.Native.Nat.{ℕ, ◌+◌, ◌-◌, ◌*◌, ◌^◌, ◌<◌}
+use Prim.Native.Nat.{ℕ, ◌+◌, ◌*◌, ◌^◌, ◌<◌}
 use native.Mathlib.Omega.{arith}
 use Rattle.block.specs.Block.{sent_code}
 use Rattle.fields.specs.Parts.{spread, field_in, place_of_field}

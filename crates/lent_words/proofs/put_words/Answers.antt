@@ -1,5 +1,4 @@
 -- `lent_words::put_words` meets its contract, word by word. Assumes nothing.
-use Prim.Native.Nat.{◌-◌}
 use native.Mathlib.Omega.{arith}
 use Rattle.lent_words.proofs.Laws.{put_first, put_next, put_done}
 use Rattle.lent_words.proofs.put_words.Goals as goal

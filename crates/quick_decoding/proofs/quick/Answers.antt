@@ -1,6 +1,5 @@
 -- `quick_decoding::quick` meets its contract: what a shape makes of the payload.
 use mathlib.Core.Path.{◌∙◌, sym}
-use mathlib.Core.Logic.{inl, inr}
 use native.Mathlib.Omega.{arith}
 use borrow.Author.Tests.{eqb-true}
 use Rattle.shapes.proofs.Quickly.{made_lt, number_lt, quickly}
