@@ -78,11 +78,10 @@ pub fn sender_from<R: Read>(reader: &mut R, out: &mut [u8; 49552]) -> usize
     sender_output(step, &vectors, out)
 }
 
-// Vector records on standard input, line records on standard output.
-pub fn sender(rt: &(impl Input + Print + Eprint)) {
+// Vector records of a reader, line records on standard output.
+pub fn sender<R: Read>(rt: &(impl Print + Eprint), reader: &mut R) {
     let mut out = [0u8; 49552];
-    let mut reader = rt.reader();
-    let n = sender_from(&mut reader, &mut out);
+    let n = sender_from(reader, &mut out);
     write_out(rt, &out[..n]);
 }
 
@@ -132,10 +131,9 @@ pub fn receiver_from<R: Read>(reader: &mut R, out: &mut [u8; 126109]) -> usize
     receiver_output(step, &line, out)
 }
 
-// Line records on standard input, vectors and four lines on standard output.
-pub fn receiver(rt: &(impl Input + Print + Eprint)) {
+// Line records of a reader, vectors and four lines on standard output.
+pub fn receiver<R: Read>(rt: &(impl Print + Eprint), reader: &mut R) {
     let mut out = [0u8; 126109];
-    let mut reader = rt.reader();
-    let n = receiver_from(&mut reader, &mut out);
+    let n = receiver_from(reader, &mut out);
     write_out(rt, &out[..n]);
 }

@@ -2,5 +2,5 @@
 #![tactic(auto)]
 
 fn main(rt: HostRuntime) {
-    programs::receiver(&rt);
+    programs::receiver(&rt, &mut rt.stdin());
 }

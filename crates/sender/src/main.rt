@@ -2,5 +2,5 @@
 #![tactic(auto)]
 
 fn main(rt: HostRuntime) {
-    programs::sender(&rt);
+    programs::sender(&rt, &mut rt.stdin());
 }
