@@ -1,15 +1,13 @@
 -- The last step, told apart: what both programs write in each case.
 use Prim.Native.Nat.{ℕ, ◌+◌, ◌-◌, ◌≤◌}
 use mathlib.Core.Path.{◌≡◌, refl, sym, ap, subst, ◌∙◌}
-use mathlib.Core.List.{List, [], ◌∷◌, ◌++◌}
+use mathlib.Core.List.{List, [], ◌++◌}
 use native.Mathlib.Omega.{arith}
-use denote.Enum.Declared.{tag_of}
-use types.Run.{OneOf, miss}
 use lib.ListN.{length, take, length-append, length-take}
 use lib.Seq.{take_at, length-take-le}
 use lib.Dec.{leb}
 use borrow.Author.Tests.{le-leb, leb-true}
-use Rattle.io.specs.Counts.{IsPrefixLen}
+use Rattle.std.specs.Counts.{IsPrefixLen}
 use Rattle.putting.specs.Overlaid.{PutsText}
 use Rattle.putting.proofs.Laws.{puts_length}
 use Rattle.records.specs.Record.{body_of}
@@ -19,7 +17,6 @@ use Rattle.display.specs.Display.{input_failed_line}
 use Rattle.display.proofs.Laws.{refused_length}
 use Rattle.gather.specs.declared.Step.{Step}
 use Rattle.gather.specs.declared.Step.TheVariants as Case
-use Rattle.gather.specs.contracts.Step.{the_type}
 use Rattle.programs.specs.Programs.{output_of, gathered_of}
 
 -- A body at the start of a slice is what was put there.
@@ -50,13 +47,6 @@ output_short p (stop n b) h = omega (arith, refused_length n, p.room)
 output_short p (failed b) h = omega (arith, p.room)
 output_short p (more b) h = omega (arith, p.room)
 
--- The cases of a step in which the records did not end have the tags 0, 2 and 3.
-never_done : (step : Step) → OneOf (0 ∷ 2 ∷ 3 ∷ []) (tag_of the_type step) → (n : ℕ) → step ≡ Case.Done n → ⊥
-never_done (Case.Done m) o n e = miss (0 ∷ 2 ∷ 3 ∷ []) 1 tt o
-never_done (Case.More m) o n e = absurd (let z : ◌≡◌ {A = ℕ} 0 1 = cc in omega arith)
-never_done (Case.Refused why) o n e = absurd (let z : ◌≡◌ {A = ℕ} 0 1 = cc in omega arith)
-never_done Case.Failed o n e = absurd (let z : ◌≡◌ {A = ℕ} 0 1 = cc in omega arith)
-
 -- What is written where the records did not end.
 abbrev pub without_end : Step → List ℕ
 without_end o = output_of (λ bytes. input_failed_line) (gathered_of o [])
@@ -82,11 +72,11 @@ module _ {text : List ℕ → List ℕ} {most longest : ℕ} (p : Program text m
   was_done n body fits e b w = output (Case.Done n) (omega (arith, body_short store n)) e (subst (λ (x : List ℕ). PutsText 0 (text x) out r exit) b w)
 
   -- They did not: what is written then is in no text, and nothing was gathered.
-  pub was_other : OneOf (0 ∷ 2 ∷ 3 ∷ []) (tag_of the_type o) → PutsText 0 (without_end o) out r exit → Output
-  was_other tag w = by o refl
+  pub was_other : ((n : ℕ) → o ≡ Case.Done n → ⊥) → PutsText 0 (without_end o) out r exit → Output
+  was_other other w = by o refl
     where
       by : (o' : Step) → o ≡ o' → Output
-      by (Case.Done n) e = absurd (never_done o tag n e)
+      by (Case.Done n) e = absurd (other n e)
       by (Case.Refused why) e = output (Case.Refused why) (omega arith) e (subst (λ (x : Step). PutsText 0 (without_end x) out r exit) e w)
       by Case.Failed e = output Case.Failed (omega arith) e (subst (λ (x : Step). PutsText 0 (without_end x) out r exit) e w)
       by (Case.More n) e = output (Case.More n) (omega arith) e (subst (λ (x : Step). PutsText 0 (without_end x) out r exit) e w)

@@ -3,21 +3,21 @@
 #![tactic(auto)]
 
 ghost use Rattle.std.specs.Prelude.{◌≡◌, [], ◌≤◌, length};
-ghost use Rattle.io.specs.Counts.{IsPrefixLen};
+ghost use Rattle.std.specs.Counts.{IsPrefixLen};
 ghost use Rattle.putting.specs.Overlaid.{PutsText};
 ghost use Rattle.gather.specs.Gather.{done};
 ghost use Rattle.display.specs.Display.{input_failed_line};
 ghost use Rattle.programs.specs.Programs.{vector_limit, line_limit, output_of, sender_output, receiver_output, gathered_of, PutsForReads};
 
 use gather::Step;
-use libc::{STDERR_FILENO, STDIN_FILENO, STDOUT_FILENO};
 use receiving::Received;
 use sending::Sent;
+use std::io::Read;
 
-// Writes to standard output. Where that fails, a full disk or a closed pipe, standard error says so: a program has no status to end with.
-fn write_out(text: &[u8]) {
-    if !io::write_all(STDOUT_FILENO, text) {
-        io::write_all(STDERR_FILENO, b"output failed\n");
+// Writes to standard output. Where that fails, a full disk or a closed pipe, standard error says so, and the status says nothing of it.
+fn write_out(rt: &(impl Print + Eprint), text: &[u8]) {
+    if rt.write_all(text).is_err() {
+        let _ = rt.eprint("output failed\n");
     }
 }
 
@@ -68,21 +68,21 @@ pub fn sender_output(step: Step, vectors: &[u8; 60000], out: &mut [u8; 49552]) -
     send_output(records::body(vectors, 0, n), out)
 }
 
-// Gathers vector records from a file descriptor, and puts what the sender writes into the output.
-pub fn sender_from(fd: i32, out: &mut [u8; 49552]) -> usize
+// Gathers vector records from a reader, and puts what the sender writes into the output.
+pub fn sender_from<R: Read>(reader: &mut R, out: &mut [u8; 49552]) -> usize
     ensures puts_for_reads { PutsForReads 1 vector_limit sender_output out.old result out.new }
     ensures prefix_len { IsPrefixLen result out.new }
 {
     let mut vectors = [0u8; 60000];
-    let step = input::gathered(fd, 1, &mut vectors);
+    let step = input::gathered(reader, 1, &mut vectors);
     sender_output(step, &vectors, out)
 }
 
-// Vector records on standard input, line records on standard output.
-pub fn sender() {
+// Vector records of a reader, line records on standard output.
+pub fn sender<R: Read>(rt: &(impl Print + Eprint), reader: &mut R) {
     let mut out = [0u8; 49552];
-    let n = sender_from(STDIN_FILENO, &mut out);
-    write_out(&out[..n]);
+    let n = sender_from(reader, &mut out);
+    write_out(rt, &out[..n]);
 }
 
 // Receives the line by way of lent vectors.
@@ -121,19 +121,19 @@ pub fn receiver_output(step: Step, line: &[u8; 49500], out: &mut [u8; 126109]) -
     receive_output(records::body(line, 0, n), out)
 }
 
-// Gathers line records from a file descriptor, and puts what the receiver writes into the output.
-pub fn receiver_from(fd: i32, out: &mut [u8; 126109]) -> usize
+// Gathers line records from a reader, and puts what the receiver writes into the output.
+pub fn receiver_from<R: Read>(reader: &mut R, out: &mut [u8; 126109]) -> usize
     ensures puts_for_reads { PutsForReads 2 line_limit receiver_output out.old result out.new }
     ensures prefix_len { IsPrefixLen result out.new }
 {
     let mut line = [0u8; 49500];
-    let step = input::gathered(fd, 2, &mut line);
+    let step = input::gathered(reader, 2, &mut line);
     receiver_output(step, &line, out)
 }
 
-// Line records on standard input, vectors and four lines on standard output.
-pub fn receiver() {
+// Line records of a reader, vectors and four lines on standard output.
+pub fn receiver<R: Read>(rt: &(impl Print + Eprint), reader: &mut R) {
     let mut out = [0u8; 126109];
-    let n = receiver_from(STDIN_FILENO, &mut out);
-    write_out(&out[..n]);
+    let n = receiver_from(reader, &mut out);
+    write_out(rt, &out[..n]);
 }

@@ -1,6 +1,6 @@
 // Document 01's example: a record of nine zero bytes.
 #![tactic(auto)]
 
-fn main() {
-    programs::receiver();
+fn main(rt: HostRuntime) {
+    programs::receiver(&rt, &mut rt.stdin());
 }

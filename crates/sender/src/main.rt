@@ -1,6 +1,6 @@
 // Vector records, an empty one among them.
 #![tactic(auto)]
 
-fn main() {
-    programs::sender();
+fn main(rt: HostRuntime) {
+    programs::sender(&rt, &mut rt.stdin());
 }
