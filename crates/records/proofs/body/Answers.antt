@@ -1,4 +1,3 @@
-
 use borrow.Author.Tests.{le-leb, lt-leb}
 use native.Mathlib.Nat.{add-sub_cancel_left}
 use mathlib.Core.Path.{ap}

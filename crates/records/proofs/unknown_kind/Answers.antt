@@ -1,4 +1,3 @@
-
 use borrow.Author.Tests.{eq-eqb, ne_eqb}
 use Rattle.records.proofs.unknown_kind.Goals as goal
 

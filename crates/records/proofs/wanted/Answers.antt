@@ -1,4 +1,3 @@
-
 use borrow.Author.Tests.{le-ltb, lt-ltb}
 use native.Mathlib.Omega.{arith}
 use Rattle.records.specs.Record.{body_limit, wanted_of, two_at}
