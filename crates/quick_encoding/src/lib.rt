@@ -104,7 +104,7 @@ fn quick_other(c0: u8, c1: u8, lanes: u64) -> Known
 pub fn quick(c0: u8, c1: u8, lanes: u64) -> Known
     requires { (c0 ≤ 15) × (c1 ≤ 15) }
     ensures quickly_coded { QuicklyCoded c0 c1 lanes result }
-    ensures c1_nonzero { result.there ≡ false → 0 < c0 + 16 * c1 }
+    ensures has_control { result.there ≡ false → 0 < c0 + 16 * c1 }
 {
     if c0 as u64 + 16 * (c1 as u64) == 0 {
         return Known {

@@ -56,8 +56,8 @@ fn send_groups(edition: Edition, bytes: &[u8], s: Sender, room: &mut [u8]) -> Se
 // All vectors sent in an edition, from INIT and a start state.
 fn send_all(edition: Edition, vectors: &[u8], start: u64, line: &mut [u8]) -> Sending
     requires { (length vectors.now ≤ 1000000) × (length vectors.now % 40 ≡ 0) × (33 * (length vectors.now / 40) ≤ length line.old) × Low vectors.now }
-    ensures replaced_value { sent result.state result.diagram result.replaced ≡ sent_for edition vectors.now start }
-    ensures line_after { line.new ≡ sent_line edition vectors.now start ++ drop (length (sent_line edition vectors.now start)) line.old }
+    ensures answer { sent result.state result.diagram result.replaced ≡ sent_for edition vectors.now start }
+    ensures line_put { line.new ≡ sent_line edition vectors.now start ++ drop (length (sent_line edition vectors.now start)) line.old }
 {
     let first = Sender {
         diagram: State::Init,

@@ -19,7 +19,7 @@ returns-then-q c =
     (spread_words args.c0 args.d0 args.c1 args.d1 (omega arith))
 
 pub encode_rows-e-requires : goal.encode_rows-e-requires
-encode_rows-e-requires c = (c.requires.0, c.requires.1, c.quick-q.ensures.c1_nonzero c.if-q.false)
+encode_rows-e-requires c = (c.requires.0, c.requires.1, c.quick-q.ensures.has_control c.if-q.false)
 
 pub returns-then-c0-c1-eq255 : goal.returns-then-c0-c1-eq255
 returns-then-c0-c1-eq255 c =
@@ -30,7 +30,7 @@ returns-then-c0-c1-eq255 c =
     low_coded args.edition enum-told2.is args.c0 args.d0 args.c1 args.d1 pre.0 pre.1 (omega arith) c.if-c0-c1-eq255.true if2.true
 
 pub encode_rows-e-requires-in-New : goal.encode_rows-e-requires-in-New
-encode_rows-e-requires-in-New c = (c.requires.0, c.requires.1, c.quick-q.ensures.c1_nonzero c.if-q.false)
+encode_rows-e-requires-in-New c = (c.requires.0, c.requires.1, c.quick-q.ensures.has_control c.if-q.false)
 
 pub returns-in-Old : goal.returns-in-Old
 returns-in-Old c =

@@ -79,4 +79,4 @@ returns c =
     let h = sym c.first_high-high.ensures in
     let f = le-ltb _ _ c.if-high-n.false in
     let g = sym c.edition_of-e.ensures in
-    (simp (z, a, b, d, e, h, f, g) c.send_all.ensures.replaced_value, simp (z, a, b, d, e, h, f, g) c.send_all.ensures.line_after)
+    (simp (z, a, b, d, e, h, f, g) c.send_all.ensures.answer, simp (z, a, b, d, e, h, f, g) c.send_all.ensures.line_put)

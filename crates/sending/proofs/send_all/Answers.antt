@@ -25,6 +25,6 @@ returns c =
     let ed = args.edition in
     let f = send-groups.ensures in
     record {
-      replaced_value = answered ed b l _ args.start mirrored.result r e f c.mirrored-2.result c.state_number.result c.mirrored-2.ensures c.state_number.ensures.0;
-      line_after = line_placed ed b l _ args.start mirrored.result r e f;
+      answer = answered ed b l _ args.start mirrored.result r e f c.mirrored-2.result c.state_number.result c.mirrored-2.ensures c.state_number.ensures.0;
+      line_put = line_placed ed b l _ args.start mirrored.result r e f;
     }
