@@ -134,6 +134,7 @@ fn line_record(body: &[u8], out: &mut [u8], at: usize) -> usize
 }
 
 // Line records of 4,092 bytes, the last with what is left.
+#[tactic(auto, using(crate::proofs::Laws::records_one))]
 pub fn line_records(line: &[u8], out: &mut [u8], at: usize) -> usize
     requires { at + length (line_records 4092 line.now) ≤ length out.old }
     ensures { PutsText at (line_records 4092 line.now) out.old result out.new }

@@ -3,17 +3,14 @@ use Rattle.std.proofs.Common.{List, ℕ, sym, ap, length, take, length-drop, ari
 use lib.Seq.{length-take-le}
 use Rattle.display.specs.Display.{line_records}
 use Rattle.display.proofs.Laws.{record_length}
-use Rattle.display.proofs.Loops.{records_end, records_last, records_on, records_fit, records_fit_last, rest_is}
+use Rattle.display.proofs.Loops.{records_end, records_on, records_fit, records_fit_last, rest_is}
 use Rattle.display.proofs.+line_records.Goals as goal
 
 pub returns-then-line-eq0 : goal.returns-then-line-eq0
 returns-then-line-eq0 t c = records_end _ c.args.line.now _ c.if-line-eq0.true
 
 pub line_record-requires : goal.line_record-requires
-line_record-requires t c = (omega arith, records_fit_last c.args.at c.args.line.now c.args.out.now c.if-line-eq0.false c.if-line-le4092.true c.requires)
-
-pub returns-then-line-le4092 : goal.returns-then-line-le4092
-returns-then-line-le4092 t c = records_last _ _ c.args.line.now _ _ c.if-line-eq0.false c.if-line-le4092.true c.line_record.ensures
+line_record-requires t c = (omega arith, records_fit_last c.args.at c.args.line.now c.args.out.now c.if-line-eq0.false (omega arith) c.requires)
 
 pub slice_bounds-line_record-end : goal.slice_bounds-line_record-end
 slice_bounds-line_record-end t c = sym (length-take-le 4092 c.args.line.now (omega arith))
@@ -21,7 +18,7 @@ slice_bounds-line_record-end t c = sym (length-take-le 4092 c.args.line.now (ome
 pub line_record-e-requires : goal.line_record-e-requires
 line_record-e-requires t c =
     let n = length-take-le 4092 c.args.line.now (omega arith) in
-    (omega arith, omega (arith, records_fit c.args.at c.args.line.now c.args.out.now c.if-line-le4092.false c.requires))
+    (omega arith, omega (arith, records_fit c.args.at c.args.line.now c.args.out.now (omega arith) c.requires))
 
 pub line_records-requires : goal.line_records-requires
 line_records-requires t c =
@@ -36,10 +33,10 @@ line_records-requires t c =
         w.ensures.ends,
         w.auto.out,
         ap (λ (x : List ℕ). length (line_records 4092 x)) (rest_is l),
-        records_fit c.args.at l c.args.out.now c.if-line-le4092.false c.requires,
+        records_fit c.args.at l c.args.out.now (omega arith) c.requires,
       ),
     )
 
 pub returns : goal.returns
 returns t c =
-    records_on _ _ _ c.args.line.now _ _ _ _ c.if-line-le4092.false (rest_is c.args.line.now) c.requires c.line_record-e.ensures c.line_records.ensures
+    records_on _ _ _ c.args.line.now _ _ _ _ (omega arith) (rest_is c.args.line.now) c.requires c.line_record-e.ensures c.line_records.ensures
