@@ -11,24 +11,19 @@ pub returns-then-octet-eq254 : goal.returns-then-octet-eq254
 returns-then-octet-eq254 c =
     let args = c.args in
     let if1 = c.if-r in
-    let if2 = c.if-flag-eq0 in
-    (with_error args.r args.flag args.octet if1.true if2.false c.if-octet-eq254.true, omega arith)
+    (with_error args.r args.flag args.octet if1.true c.if-flag-eq0.false c.if-octet-eq254.true, omega arith)
 
 pub returns-then-r-2 : goal.returns-then-r-2
 returns-then-r-2 c =
     let args = c.args in
     let if1 = c.if-r in
-    let if2 = c.if-flag-eq0 in
-    let if3 = c.if-octet-eq254 in
-    (with_end args.r args.flag args.octet _ if1.true if2.false if3.false (rw c.if-r-2.true), omega arith)
+    (with_end args.r args.flag args.octet _ if1.true c.if-flag-eq0.false c.if-octet-eq254.false (rw c.if-r-2.true), omega arith)
 
 pub returns-else-r-2 : goal.returns-else-r-2
 returns-else-r-2 c =
     let args = c.args in
     let if1 = c.if-r in
-    let if2 = c.if-flag-eq0 in
-    let if3 = c.if-octet-eq254 in
-    (with_end args.r args.flag args.octet _ if1.true if2.false if3.false (rw c.if-r-2.false), omega arith)
+    (with_end args.r args.flag args.octet _ if1.true c.if-flag-eq0.false c.if-octet-eq254.false (rw c.if-r-2.false), omega arith)
 
 pub returns : goal.returns
 returns c = (with_none c.args.r (by_flag c.args.flag c.args.octet) c.if-r.false, omega arith)
