@@ -52,11 +52,10 @@ extern "C" {
 #define HOLZMOTTE_VERSION_PATCH 0
 #define HOLZMOTTE_VERSION "0.10.0"
 
-/* So much stack is enough for a call. This is tested, not proved. Measured on 64-bit Arm: to send takes up to 1.0 KB, to list frames 0.9,
- * however many there are, to find an error 0.9, to receive 0.7, a burst 0.6, to close 0.5, to count 0.3, to build an index 0.3 and to read
- * a record 0.1 (1.0 each in the first call of the test), to begin and to write a record 0.1. On x86-64: to send and to close 0.7 KB, to
- * receive 0.9, a burst 0.8; the others were not measured there. The project's two programs, which hold a whole record and what they gather,
- * take up to 239 KB. */
+/* So much stack is enough for a call. This is tested, not proved. Measured on x86-64, in bytes: a burst took 1,271, to receive 1,223, to
+ * close 759, to send 631, a count 319, to find an error 311, to list frames 231, however many there were, to build an index 167, to begin
+ * and to write a record 87, to read one 63. The project's two programs, which hold a whole record and what they gather,
+ * need 248 KB (to receive) and 184 (to send): the least `ulimit -s` with which each stored input gives its output. */
 #define HOLZMOTTE_STACK_BYTES 16384
 
 /* Sizes, in bytes. */
