@@ -52,8 +52,8 @@ extern "C" {
 #define HOLZMOTTE_VERSION_PATCH 0
 #define HOLZMOTTE_VERSION "0.10.0"
 
-/* So much stack is enough for a call. This is tested, not proved. Measured on x86-64, in bytes: a burst took 1,271, to receive 1,223, to
- * close 759, to send 631, a count 319, to find an error 311, to list frames 231, however many there were, to build an index 167, to begin
+/* So much stack is enough for a call. This is tested, not proved. Measured on x86-64, in bytes: to receive took 1,295, a burst 1,279, to
+ * send 571, to find an error 327, to close 322, a count and to list frames, however many there were, 271, to build an index 175, to begin
  * and to write a record 87, to read one 63. The project's two programs, which hold a whole record and what they gather,
  * need 248 KB (to receive) and 184 (to send): the least `ulimit -s` with which each stored input gives its output. */
 #define HOLZMOTTE_STACK_BYTES 16384

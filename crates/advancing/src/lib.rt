@@ -1,53 +1,17 @@
 // The state after a call, from the state before it and what the receiver did: the numbers, added up.
 #![tactic(auto)]
 
-ghost use Rattle.std.specs.Prelude.{◌≡◌, cond, [], ◌≤◌};
-ghost use Rattle.receiving.specs.Parts.{no_counts, plus, none_handed, plus_handed};
+ghost use Rattle.std.specs.Prelude.{◌≡◌, ◌≤◌};
+ghost use Rattle.receiving.specs.Parts.{plus, plus_handed};
 ghost use Rattle.receiving.specs.Counted.{Within, HandedWithin};
-ghost use Rattle.kept_state.specs.Meaning.{kept_for};
 ghost use Rattle.advancing.specs.Coded.{SumsFit, progressed, closed_with};
 
 use diagrams::state_number;
 use kept_state::{Kept, State, kept_of};
 use receiving::{Counts, Handed, Progress};
 
-// No block held.
-pub fn no_block() -> Kept
-    ensures { result ≡ kept_for [] }
-{
-    Kept {
-        on: false,
-        kind: 0,
-        first: 0,
-        second: 0,
-    }
-}
-
-// No block counted.
-pub fn no_counts() -> Counts
-    ensures { result ≡ no_counts }
-{
-    Counts {
-        tested: 0,
-        slips: 0,
-        headers: 0,
-        types: 0,
-        codes: 0,
-        sets: 0,
-    }
-}
-
-// No vector counted.
-pub fn none_handed() -> Handed
-    ensures { result ≡ none_handed }
-{
-    Handed {
-        begun: 0,
-        replaced: 0,
-    }
-}
-
-// The counts of blocks, with those that a call added.
+// The counts of blocks, with those that a call added. An `impl Add` would be no plainer: it would stand in the crate `receiving`, apart from the
+// bound that only these sums have.
 fn plus_counts(a: Counts, b: Counts) -> Counts
     requires { Within 1000000 a × Within 1000000 b }
     ensures { result ≡ plus a b }
@@ -74,76 +38,44 @@ fn plus_handed(a: Handed, b: Handed) -> Handed
 }
 
 // The state after a receiver's progress over so many bytes.
+#[tactic(auto, unfolding(receiving::specs::Loop::held_in))]
+#[inline(always)]
 pub fn next_state(s: State, line: usize, p: Progress) -> State
     requires { SumsFit s line p }
     ensures { result ≡ progressed s line p }
 {
     let r = p.receiver;
-    let link = r.link;
-    let lock = link.lock;
-    let rate = link.rate;
-    let carried = r.carried;
-    let have = r.have;
-    let block = r.held;
-    let state = r.state;
-    let old_counts = s.counts;
-    let new_counts = p.counts;
-    let old_handed = s.handed;
-    let new_handed = p.handed;
-    let held = kept_of(have, block);
-    let counts = plus_counts(old_counts, new_counts);
-    let handed = plus_handed(old_handed, new_handed);
     State {
         closed: false,
         bytes: s.bytes + line as u64,
         edition: s.edition,
-        lock: lock,
-        rate: rate,
-        history: link.history,
-        carried: carried,
+        lock: r.link.lock,
+        rate: r.link.rate,
+        history: r.link.history,
+        carried: r.carried,
         skip: r.skip,
-        diagram: state_number(state),
-        have: have,
-        held: held,
-        counts: counts,
+        diagram: state_number(r.state),
+        have: r.have,
+        held: kept_of(r.have, r.held),
+        counts: plus_counts(s.counts, p.counts),
         vectors: s.vectors + (p.at / 10) as u64,
-        handed: handed,
+        handed: plus_handed(s.handed, p.handed),
     }
 }
 
-// 1 where a block is held.
-fn one_if(have: bool) -> u64
-    ensures { (result ≡ cond have 1 0) × (result ≤ 1) }
-{
-    if have { 1 } else { 0 }
-}
-
 // The state after the closing call, whose vector adds to the counts.
+#[tactic(auto, unfolding(kept_state::specs::Meaning::kept_for))]
+#[inline(always)]
 pub fn closed_state(s: State, last: Handed) -> State
     requires { (s.vectors ≤ 1000000) × HandedWithin 1000000 s.handed × HandedWithin 1000000 last }
     ensures { result ≡ closed_with s last }
 {
-    let lock = s.lock;
-    let rate = s.rate;
-    let carried = s.carried;
-    let counts = s.counts;
-    let old_handed = s.handed;
-    let held = no_block();
-    let handed = plus_handed(old_handed, last);
     State {
         closed: true,
-        bytes: s.bytes,
-        edition: s.edition,
-        lock: lock,
-        rate: rate,
-        history: s.history,
-        carried: carried,
-        skip: s.skip,
-        diagram: s.diagram,
         have: false,
-        held: held,
-        counts: counts,
-        vectors: s.vectors + one_if(s.have),
-        handed: handed,
+        held: Kept::default(),
+        vectors: s.vectors + u64::from(s.have),
+        handed: plus_handed(s.handed, last),
+        ..s
     }
 }

@@ -8,85 +8,66 @@ ghost use Rattle.receiving.specs.Loop.{tested_in, held_state, held_bytes, held_h
 ghost use Rattle.receiving.specs.Counted.{hand_out, HandedWithin};
 
 use counting::count_vector;
+use decoding::kind_in;
+use diagram_steps::{diagram_step, may_follow};
 use diagrams::State;
-use receiving::{Handed, Held};
+use receiving::{Handed, Held, LOCAL_FAULT};
 use vectors::{Vector, put_vector};
 
+// The error vector.
+const ERROR: Vector = Vector {
+    c0: 0x0f,
+    d0: 0xfefe_fefe,
+    c1: 0x0f,
+    d1: 0xfefe_fefe,
+};
+
 // Whether the block before may end its frame: this one was tested in lock and not high, and is S, C or LI.
+#[tactic(auto, unfolding(receiving::specs::Receive::lets_end, receiving::specs::Loop::tested_in))]
 pub fn lets_end(next: Held) -> bool
     ensures { result ≡ lets_end (tested_in next) }
 {
-    let on = next.on;
-    let class = next.class;
-    if on {
-        return diagram_steps::may_follow(decoding::kind_in(class));
-    }
-    false
+    next.on && may_follow(kind_in(next.class))
 }
 
 // The receive diagram's state after a block.
+#[tactic(auto, unfolding(receiving::specs::Receive::state_of, receiving::specs::Loop::tested_in))]
 fn state_step(s: State, h: Held, ends: bool) -> State
     ensures { result ≡ state_of s (tested_in h) ends }
 {
-    let on = h.on;
-    let class = h.class;
-    if on {
-        return diagram_steps::diagram_step(s, decoding::kind_in(class), ends);
+    if h.on {
+        diagram_step(s, kind_in(h.class), ends)
+    } else {
+        State::Init
     }
-    State::Init
 }
 
 // A vector to be handed out, and what those handed out are counted for.
-#[derive(Clone, Copy)]
+#[derive(Clone, Copy, Debug, PartialEq, Eq)]
 pub struct Out {
     pub vector: Vector,
     pub handed: Handed,
 }
 
 // The Local Fault vector in INIT, the error vector in E, else the decoded block.
+#[tactic(auto, unfolding(receiving::specs::Receive::answer_in, receiving::specs::Counted::hand_out, receiving::specs::Loop::tested_in))]
 pub fn hand_out(n: Handed, s: State, h: Held) -> Out
     requires { HandedWithin 6600000 n }
     ensures { (vector_bytes result.vector ≡ answer_in s (vector_bytes h.vector)) × (result.handed ≡ hand_out n (record { state = s; block = tested_in h })) }
 {
-    let v = h.vector;
-    let class = h.class;
     match s {
         State::Init => Out {
-            vector: Vector {
-                c0: 0x01,
-                d0: 0x0100_009c,
-                c1: 0x01,
-                d1: 0x0100_009c,
-            },
+            vector: LOCAL_FAULT,
             handed: n,
         },
         State::Error => Out {
-            vector: Vector {
-                c0: 0x0f,
-                d0: 0xfefe_fefe,
-                c1: 0x0f,
-                d1: 0xfefe_fefe,
-            },
-            handed: count_vector(n, class, false),
+            vector: ERROR,
+            handed: count_vector(n, h.class, false),
         },
         State::Control | State::Terminate | State::LowPower | State::Data => Out {
-            vector: v,
-            handed: count_vector(n, class, true),
+            vector: h.vector,
+            handed: count_vector(n, h.class, true),
         },
-    }
-}
-
-// State T.
-fn is_terminate(s: State) -> bool
-    ensures { result ≡ is_terminate s }
-{
-    match s {
-        State::Terminate => true,
-        State::Init => false,
-        State::Control => false,
-        State::Data => false,
-        State::Error => false,
-        State::LowPower => false,
     }
 }
 
@@ -94,11 +75,11 @@ fn is_terminate(s: State) -> bool
 pub fn judged_alone(have: bool, s: State) -> bool
     ensures { result ≡ cond have (is_terminate s) false }
 {
-    if have { is_terminate(s) } else { false }
+    have && s == State::Terminate
 }
 
 // The diagram's state, where the room goes on, and what the vectors handed out are counted for.
-#[derive(Clone, Copy)]
+#[derive(Clone, Copy, Debug, PartialEq, Eq)]
 pub struct Answered {
     pub state: State,
     pub at: usize,
@@ -121,18 +102,16 @@ pub fn settle_held(
     if have {
         let state = state_step(s, h, ends);
         let out = hand_out(handed, state, h);
-        let vector = out.vector;
-        let handed = out.handed;
-        put_vector(room, at, vector);
+        put_vector(room, at, out.vector);
         return Answered {
-            state: state,
+            state,
             at: at + 10,
-            handed: handed,
+            handed: out.handed,
         };
     }
     Answered {
         state: s,
-        at: at,
-        handed: handed,
+        at,
+        handed,
     }
 }

@@ -20,11 +20,6 @@ abbrev AllFalse : List Bool → Type 0
 AllFalse [] = Unit
 AllFalse (b ∷ bs) = (b ≡ false) × AllFalse bs
 
--- a list's end adds nothing
-pub or-false : (b : Bool) → b || false ≡ b
-or-false true = refl
-or-false false = refl
-
 -- neither of two
 neither : (a b : Bool) → a || b ≡ false → (a ≡ false) × (b ≡ false)
 neither true b e = absurd (true≢false e)

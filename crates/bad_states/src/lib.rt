@@ -14,81 +14,35 @@ fn over_summary(s: State) -> bool
 {
     let c = s.counts;
     let h = s.handed;
-    if 100000 < c.tested {
-        return true;
-    }
-    if 100000 < c.slips {
-        return true;
-    }
-    if 100000 < s.vectors {
-        return true;
-    }
-    if 100000 < c.headers {
-        return true;
-    }
-    if 100000 < c.types {
-        return true;
-    }
-    if 100000 < c.codes {
-        return true;
-    }
-    if 100000 < c.sets {
-        return true;
-    }
-    if 100000 < h.begun {
-        return true;
-    }
-    100000 < h.replaced
+    [
+        c.tested, c.slips, s.vectors, c.headers, c.types, c.codes, c.sets, h.begun, h.replaced,
+    ]
+    .iter()
+    .any(|&n| 100000 < n)
 }
 
 // A count of the lock, of the window or of line bytes above its limit.
 fn over_counts(s: State) -> bool
     ensures { result ≡ any (over_counts s) }
 {
-    let lock = s.lock;
-    let rate = s.rate;
-    if 63 < lock.tested {
-        return true;
-    }
-    if 15 < lock.invalid {
-        return true;
-    }
-    if 19530 < rate.blocks {
-        return true;
-    }
-    if 19530 < rate.invalid {
-        return true;
-    }
-    825000 < s.bytes
+    63 < s.lock.tested
+        || 15 < s.lock.invalid
+        || 19530 < s.rate.blocks
+        || 19530 < s.rate.invalid
+        || 825000 < s.bytes
 }
 
 // Counts that are at odds.
 fn at_odds(s: State) -> bool
     ensures { result ≡ any (at_odds s) }
 {
-    let lock = s.lock;
-    let rate = s.rate;
-    let locked = lock.locked;
-    let high = rate.high;
-    if lock.tested < lock.invalid {
-        return true;
-    }
-    if rate.blocks < rate.invalid {
-        return true;
-    }
-    if locked {
-        return false;
-    }
-    if 0 < lock.invalid {
-        return true;
-    }
-    if 0 < rate.invalid {
-        return true;
-    }
-    high
+    s.lock.tested < s.lock.invalid
+        || s.rate.blocks < s.rate.invalid
+        || !s.lock.locked && (0 < s.lock.invalid || 0 < s.rate.invalid || s.rate.high)
 }
 
 // How many states the diagrams of an edition have.
+#[tactic(auto, unfolding(block::specs::Block::edition_of))]
 fn states_of(edition: u64) -> u64
     ensures { result ≡ length (states (edition_of edition)) }
 {
@@ -99,28 +53,14 @@ fn states_of(edition: u64) -> u64
 fn out_of_range(s: State) -> bool
     ensures { result ≡ any (out_of_range s) }
 {
-    let carried = s.carried;
-    if 0x0400_0000_0000_0000 <= s.history {
-        return true;
-    }
-    if 65 < carried.count {
-        return true;
-    }
-    states_of(s.edition) <= s.diagram
+    0x0400_0000_0000_0000 <= s.history || 65 < s.carried.count || states_of(s.edition) <= s.diagram
 }
 
 // Whether refusal 10 is given for a state.
+#[tactic(auto, unfolding(crate::specs::BadStates::bad_state))]
+#[inline(always)]
 pub fn bad_state(s: State) -> bool
     ensures { result ≡ bad_state s }
 {
-    if over_counts(s) {
-        return true;
-    }
-    if over_summary(s) {
-        return true;
-    }
-    if at_odds(s) {
-        return true;
-    }
-    out_of_range(s)
+    over_counts(s) || over_summary(s) || at_odds(s) || out_of_range(s)
 }

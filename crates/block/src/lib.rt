@@ -2,7 +2,7 @@
 // Clause 49 low power idle (document 02, 9/13).
 #![tactic(auto)]
 
-#[derive(Clone, Copy)]
+#[derive(Clone, Copy, Debug, PartialEq, Eq)]
 pub enum Kind {
     D,
     C,
@@ -13,14 +13,14 @@ pub enum Kind {
 }
 
 // Document 02, 9/13: the edition of Clause 49 in use.
-#[derive(Clone, Copy)]
+#[derive(Clone, Copy, Debug, PartialEq, Eq)]
 pub enum Edition {
     Old,
     New,
 }
 
 // Document 02, 1/13: why a received block is bad.
-#[derive(Clone, Copy)]
+#[derive(Clone, Copy, Debug, PartialEq, Eq)]
 pub enum Reason {
     Header,
     BlockType,
@@ -29,7 +29,7 @@ pub enum Reason {
 }
 
 // What a received block is: of a kind other than E, or bad with its reason.
-#[derive(Clone, Copy)]
+#[derive(Clone, Copy, Debug, PartialEq, Eq)]
 pub enum Class {
     D,
     C,
@@ -40,7 +40,7 @@ pub enum Class {
 }
 
 // The block of a vector. A vector that no block carries is of kind E, with the block that is sent in state E.
-#[derive(Clone, Copy)]
+#[derive(Clone, Copy, Debug, PartialEq, Eq)]
 pub struct Coded {
     pub kind: Kind,
     pub header: u64,

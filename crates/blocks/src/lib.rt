@@ -5,7 +5,7 @@ ghost use Rattle.std.specs.Prelude.{◌≡◌, ◌+◌, ◌*◌, ◌/◌, ◌≤
 ghost use Rattle.bits.specs.Bits.{number, line_bit};
 ghost use Rattle.blocks.specs.Blocks.{header_at, payload_at, Fours};
 
-use line::{Block, load, wide};
+use line::{Block, load};
 
 // Four blocks: their headers, two bits each, the first lowest, and their payloads.
 #[derive(Clone, Copy)]
@@ -22,7 +22,7 @@ fn load_two(s: &[u8], at: usize) -> u64
     requires { at + 2 ≤ length s.now }
     ensures { result ≡ number 16 (λ i. line_bit s.now (8 * at + i)) }
 {
-    wide(s[at]) + wide(s[at + 1]) * 256
+    u64::from(u16::from_le_bytes([s[at], s[at + 1]]))
 }
 
 // The block from bit pos on: it ends within ten bytes.

@@ -303,26 +303,12 @@ module _ (s : State) (room : List ℕ) (v : burst_verdict s 0 (length room) ≡ 
 
 -- ---- a refused call
 
-module _ (s : State) (line room : List ℕ) (n : ℕ) (z : Reply) (es : z.state ≡ s) (ea : answer_of z.answer ≡ Answer.refused n 0)
-    (ed : z.added ≡ record { counts = no_counts; handed = none_handed }) where
-  burst_refused : refused n 0 ≡ burst_verdict s (length line) (length room) → Replies (burst_call s line room) z room
-  unfolding burst_call refuses
-  burst_refused e = (rw (← e) es, rw (← e) ea, rw (← e) ed, rw (← e))
+pub burst_refused : (s : State) (line room : List ℕ) (n : ℕ) (z : Reply) → z.state ≡ s → answer_of z.answer ≡ Answer.refused n 0
+    → z.added ≡ record { counts = no_counts; handed = none_handed } → refused n 0 ≡ burst_verdict s (length line) (length room) → Replies (burst_call s line room) z room
+unfolding burst_call refuses
+burst_refused s line room n z es ea ed e = (rw (← e) es, rw (← e) ea, rw (← e) ed, rw (← e))
 
-  close_refused : refused n 0 ≡ burst_verdict s 0 (length room) → Replies (close_call s room) z room
-  unfolding close_call refuses
-  close_refused e = (rw (← e) es, rw (← e) ea, rw (← e) ed, rw (← e))
-
-  pub either_refused : (closing : Bool) (bytes : ℕ) → bytes ≡ cond closing 0 (length line) → refused n 0 ≡ burst_verdict s bytes (length room)
-      → Replies (cond closing (close_call s room) (burst_call s line room)) z room
-  either_refused true bytes e v = close_refused (v ∙ ap (λ (k : ℕ). burst_verdict s k (length room)) e)
-  either_refused false bytes e v = burst_refused (v ∙ ap (λ (k : ℕ). burst_verdict s k (length room)) e)
-
--- ---- either call, once it is known which
-
-module _ (s : State) (line room : List ℕ) (closing b : Bool) (e : closing ≡ b) where
-  pub which_passes : (bytes : ℕ) → bytes ≡ cond closing 0 (length line) → burst_verdict s bytes (length room) ≡ accepted → burst_verdict s (cond b 0 (length line)) (length room) ≡ accepted
-  which_passes bytes h v = sym (ap (λ (k : ℕ). burst_verdict s k (length room)) (h ∙ ap (λ (x : Bool). cond x 0 (length line)) e)) ∙ v
-
-  pub which_replies : (z : Reply) (room₁ : List ℕ) → Replies (cond b (close_call s room) (burst_call s line room)) z room₁ → Replies (cond closing (close_call s room) (burst_call s line room)) z room₁
-  which_replies z room₁ r = subst (λ (x : Bool). Replies (cond x (close_call s room) (burst_call s line room)) z room₁) (sym e) r
+pub close_refused : (s : State) (room : List ℕ) (n : ℕ) (z : Reply) → z.state ≡ s → answer_of z.answer ≡ Answer.refused n 0
+    → z.added ≡ record { counts = no_counts; handed = none_handed } → refused n 0 ≡ burst_verdict s 0 (length room) → Replies (close_call s room) z room
+unfolding close_call refuses
+close_refused s room n z es ea ed e = (rw (← e) es, rw (← e) ea, rw (← e) ed, rw (← e))

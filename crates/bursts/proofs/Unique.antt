@@ -2,17 +2,14 @@
 -- nothing.
 use Prim.Native.Nat.{ℕ}
 use mathlib.Core.Path.{◌≡◌, sym, ap, ◌∙◌}
-use mathlib.Core.Bool.{Bool, cond}
 use mathlib.Core.List.{List}
-use native.Mathlib.Omega.{arith}
-use Rattle.refusals.proofs.Laws.{number_injective}
+use Rattle.std.specs.Prelude.{Result, Ok, Err}
+use Rattle.refusals.proofs.Unique.{refused_injective}
 use Rattle.refusals.specs.Number.{number_of}
-use Rattle.refusals.specs.declared.Refusal.{Refusal}
+use Rattle.refusals.specs.declared.Refused.{Refused}
 use Rattle.reception.proofs.Unique.{answer_injective}
 use Rattle.kept_state.specs.declared.State.{State}
 use Rattle.bursts.specs.declared.Reply.{Reply}
-use Rattle.bursts.specs.declared.Begun.{Begun}
-use Rattle.bursts.specs.declared.Begun.TheVariants.{Fresh, Refused}
 use Rattle.bursts.specs.Burst.{begun, refused, begun_of, Begins, Called, burst_call, close_call, Replies}
 
 same_state : (a b : State) → begun a ≡ begun b → a ≡ b
@@ -24,15 +21,15 @@ same_number a b p q e = cc
 same_place : (a b p q : ℕ) → refused a p ≡ refused b q → p ≡ q
 same_place a b p q e = cc
 
-begun_injective : (a b : Begun) → begun_of a ≡ begun_of b → a ≡ b
-begun_injective (Fresh s) (Fresh t) e = ap Fresh (same_state s t e)
-begun_injective (Fresh s) (Refused n p) e = absurd (let z : ◌≡◌ {A = ℕ} 0 1 = cc in omega arith)
-begun_injective (Refused n p) (Fresh s) e = absurd (let z : ◌≡◌ {A = ℕ} 0 1 = cc in omega arith)
-begun_injective (Refused n p) (Refused m q) e =
-    ap (λ (x : Refusal). Refused x p) (number_injective n m (same_number (number_of n) (number_of m) p q e)) ∙ ap (Refused m) (same_place (number_of n) (number_of m) p q e)
+begun_injective : (a b : Result State Refused) → begun_of a ≡ begun_of b → a ≡ b
+begun_injective (Ok s) (Ok t) e = ap Ok (same_state s t e)
+begun_injective (Ok s) (Err w) e = cc
+begun_injective (Err v) (Ok s) e = cc
+begun_injective (Err v) (Err w) e =
+    ap Err (refused_injective v w (same_number (number_of v.0) (number_of w.0) v.1 w.1 e) (same_place (number_of v.0) (number_of w.0) v.1 w.1 e))
 
 -- `begin`
-pub begin_unique : (edition : ℕ) (a b : Begun) → Begins edition a → Begins edition b → a ≡ b
+pub begin_unique : (edition : ℕ) (a b : Result State Refused) → Begins edition a → Begins edition b → a ≡ b
 begin_unique edition a b p q = begun_injective a b (p ∙ sym q)
 
 same : (c : Called) (a b : Reply) (room₁ room₂ : List ℕ) → Replies c a room₁ → Replies c b room₂ → (a ≡ b) × (room₁ ≡ room₂)
@@ -49,8 +46,3 @@ burst_unique s line room room₁ room₂ a b p q = same (burst_call s line room)
 -- `close`
 pub close_unique : (s : State) (room room₁ room₂ : List ℕ) (a b : Reply) → Replies (close_call s room) a room₁ → Replies (close_call s room) b room₂ → (a ≡ b) × (room₁ ≡ room₂)
 close_unique s room room₁ room₂ a b p q = same (close_call s room) a b room₁ room₂ p q
-
--- `continued`
-pub continued_unique : (s : State) (line room room₁ room₂ : List ℕ) (closing : Bool) (a b : Reply)
-    → Replies (cond closing (close_call s room) (burst_call s line room)) a room₁ → Replies (cond closing (close_call s room) (burst_call s line room)) b room₂ → (a ≡ b) × (room₁ ≡ room₂)
-continued_unique s line room room₁ room₂ closing a b p q = same (cond closing (close_call s room) (burst_call s line room)) a b room₁ room₂ p q

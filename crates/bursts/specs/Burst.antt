@@ -1,8 +1,9 @@
 -- Document 02, 2/13: what a burst and the closing call answer, the state after them, and what they leave in the lent room.
-use Rattle.std.specs.Prelude.{ℕ, ◌+◌, Bool, true, false, ◌≡◌, List, [], ◌∷◌, ◌++◌, length, drop}
+use Rattle.std.specs.Prelude.{ℕ, ◌+◌, Bool, true, false, ◌≡◌, List, [], ◌∷◌, ◌++◌, length, drop, Result}
 use Rattle.bits.specs.Bits.{line_bits}
 use Rattle.refusals.specs.First.{first, by_verdict}
-use Rattle.refusals.specs.Number.{number_of}
+use Rattle.refusals.specs.Refused.{by_result}
+use Rattle.refusals.specs.declared.Refused.{Refused}
 use Rattle.block.specs.Block.{edition_check}
 use Rattle.diagrams.specs.Diagram.{state_number}
 use Rattle.lock.specs.Lock.{lock_fresh}
@@ -17,8 +18,6 @@ use Rattle.receiving.specs.declared.Summary.{Summary}
 use Rattle.kept_state.specs.declared.State.{State}
 use Rattle.bursts.specs.declared.Added.{Added}
 use Rattle.bursts.specs.declared.Reply.{Reply}
-use Rattle.bursts.specs.declared.Begun.{Begun}
-use Rattle.bursts.specs.declared.Begun.TheVariants as Begin
 use Rattle.kept_state.specs.Meaning.{feed_meant, diagram_meant, held_meant, carried_for, kept_for, have_for}
 use Rattle.judging.specs.Judging.{burst_verdict}
 
@@ -52,12 +51,11 @@ unfoldable pub begin_answer : ℕ → BeginAnswer
 begin_answer edition = by_verdict (first (edition_check edition ∷ [])) (begun (state_fresh edition)) refused
 
 -- the document's number and values for each case
-abbrev pub begun_of : Begun → BeginAnswer
-begun_of (Begin.Fresh s) = begun s
-begun_of (Begin.Refused why place) = refused (number_of why) place
+abbrev pub begun_of : Result State Refused → BeginAnswer
+begun_of = by_result begun refused
 
 -- the promise: `begin` answered `r`
-abbrev pub Begins : ℕ → Begun → Type 0
+abbrev pub Begins : ℕ → Result State Refused → Type 0
 Begins edition r = begun_of r ≡ begin_answer edition
 
 -- ---- a burst that is accepted: the receiver goes on where it stands

@@ -1,15 +1,15 @@
 -- Document 02, 2/13: "However the bytes are cut, zero-length bursts too, all the vectors joined and the last summary equal those of one call
 -- over the whole." As types: the proofs are in proofs/.
-use Rattle.std.specs.Prelude.{ℕ, ◌+◌, ◌-◌, ◌*◌, ◌/◌, ◌≤◌, ◌≡◌, false, length, take}
+use Rattle.std.specs.Prelude.{ℕ, ◌+◌, ◌-◌, ◌*◌, ◌/◌, ◌≤◌, ◌≡◌, false, length, take, Result}
 use mathlib.Core.List.{List, [], ◌∷◌, ◌++◌, flatten}
 use Rattle.refusals.specs.First.{accepted}
+use Rattle.refusals.specs.declared.Refused.{Refused}
 use Rattle.block.specs.Block.{edition_of}
 use Rattle.receiving.specs.Receive.{judged_alone, received_vectors}
 use Rattle.receiving.specs.Parts.{no_counts, plus, none_handed, plus_handed, bytes_of}
 use Rattle.receiving.specs.Answer.{ReceiveAnswer, received, summary_of, answer_of, Receives}
 use Rattle.receiving.specs.Answer as Answer
 use Rattle.receiving.specs.declared.Summary.{Summary}
-use Rattle.receiving.specs.declared.Received.{Received}
 use Rattle.kept_state.specs.declared.State.{State}
 use Rattle.bursts.specs.declared.Added.{Added}
 use Rattle.bursts.specs.declared.Reply.{Reply}
@@ -127,7 +127,7 @@ AsOne =
 abbrev pub Whole : Type 0
 Whole =
     (edition : ℕ) (line bytes : List ℕ) (last : Summary) (b : InBursts edition line bytes last)
-    → (room room' : List ℕ) (one : Received) → Receives edition line room one room' → 10 * (8 * length line / 66) ≤ length room
+    → (room room' : List ℕ) (one : Result Summary Refused) → Receives edition line room one room' → 10 * (8 * length line / 66) ≤ length room
     → (answer_of one ≡ received last) × (room' ≡ at_start bytes room) × (plus_added (added_after_calls b.calls) b.reply.added ≡ added_in last)
 
 -- "a handed-in state .. and given for nothing else": what a fresh state leads to is never refused with 10, and has its edition

@@ -1,18 +1,36 @@
 -- What a record comes to, case by case.
 use Prim.Native.Nat.{ℕ, ◌+◌}
 use mathlib.Core.Path.{◌≡◌, refl, sym, ap, subst, ◌∙◌}
-use mathlib.Core.Bool.{Bool, true, false, cond, not}
+use mathlib.Core.Bool.{Bool, true, false, cond, not, true≢false}
 use mathlib.Core.List.{List, [], ◌∷◌}
+use native.Mathlib.Omega.{arith}
 use lib.Dec.{eqb, leb}
 use lib.ListN.{length}
 use borrow.Author.Tests.{eq-eqb, ne_eqb}
 use Rattle.refusals.specs.First.{check_at, Verdict, accepted, first, by_verdict}
 use Rattle.refusals.specs.First as First
 use Rattle.refusals.proofs.Laws.{first_append, by_test}
-use Rattle.records.specs.Record.{body_limit, two_at, read_checks, read_at, body_of}
+use Rattle.records.specs.Record.{body_limit, kind_number, two_at, read_checks, read_at, body_of}
 use Rattle.records.specs.Record as Record
 use Rattle.records.proofs.Laws.{body_is}
+use denote.Enum.Bare.{sameb}
+use Rattle.records.specs.declared.RecordKind.{RecordKind}
+use Rattle.records.specs.declared.RecordKind.TheVariants.{Vectors, Line}
+use Rattle.records.specs.contracts.RecordKind.{the_type}
 use Rattle.captures.specs.Captures.{Recorded, body, end, refused, record_checks, body_at, body_of_kind, answering, leaving}
+
+-- kinds that the code tells apart, and those that it does not
+pub differ : (a b : RecordKind) → not (sameb the_type a b) ≡ true → kind_number a ≡ kind_number b → ⊥
+differ Vectors Vectors e n = absurd (true≢false (sym e))
+differ Vectors Line e n = omega (arith, n)
+differ Line Vectors e n = omega (arith, n)
+differ Line Line e n = absurd (true≢false (sym e))
+
+pub agree : (a b : RecordKind) → not (sameb the_type a b) ≡ false → kind_number a ≡ kind_number b
+agree Vectors Vectors e = refl
+agree Vectors Line e = absurd (true≢false e)
+agree Line Vectors e = absurd (true≢false e)
+agree Line Line e = refl
 
 -- ---- by what the reader finds
 

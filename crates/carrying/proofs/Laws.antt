@@ -1,6 +1,6 @@
 -- What is taken from the line, in each of the four cases. Assumes nothing.
 use mathlib.Core.Path.{◌≡◌, refl, sym, ap, ap₂, ◌∙◌, subst}
-use mathlib.Core.Bool.{Bool, true, false}
+use mathlib.Core.Bool.{true, false}
 use mathlib.Core.List.{List, [], ◌++◌}
 use Prim.Native.Nat.{ℕ, ◌+◌, ◌-◌, ◌*◌, ◌^◌, ◌≤◌, ◌<◌}
 use native.Mathlib.Nat.{add_assoc}
@@ -15,6 +15,7 @@ use Rattle.line.proofs.Laws.{header_number, payload_number}
 use Rattle.carrying.specs.Carrying.{word_of, carried_bits, Sound, block_bits, Fills, Takes}
 use Rattle.carrying.specs.declared.Carried.{Carried}
 use Rattle.carrying.specs.declared.Taken.{Taken}
+use Rattle.std.specs.Prelude.{Option, Some, None}
 use Rattle.carrying.proofs.Reading.{number_zeros, bit_past}
 use Rattle.carrying.proofs.Joining.{onward, word_more, bits_more}
 
@@ -47,9 +48,9 @@ module _ (line : List ℕ) (pos : ℕ) (c : Carried) where
         ap₂ (λ (l : List ℕ) (n : ℕ). l ++ take n (drop pos B)) (bits_none c empty) e ∙ part_line_bits 66 pos line room
 
     -- the block is full
-    pub fills_whole : t.header ≡ number 2 (λ i. line_bit line (pos + i)) → t.payload ≡ number 64 (λ i. line_bit line (pos + 2 + i))
-        → carried_bits t.carried ≡ [] → Fills B pos false c t
-    fills_whole eh ep en =
+    pub fills_whole : (b : Block) → b.header ≡ number 2 (λ i. line_bit line (pos + i)) → b.payload ≡ number 64 (λ i. line_bit line (pos + 2 + i))
+        → carried_bits t.carried ≡ [] → Fills B pos false c b t
+    fills_whole b eh ep en =
         record {
           kept = refl;
           whole = ap length whole_bits ∙ length_listed 66 (λ i. line_bit line (pos + i));
@@ -87,58 +88,64 @@ module _ (line : List ℕ) (pos : ℕ) (c : Carried) where
         (word_more line pos c.count n (word_of c) sound.fits)
 
     -- 66: the block is full
-    pub fills_last : c.count + n ≡ 66 → more.payload < 2 ^ 64 → t.header ≡ more.header → t.payload ≡ more.payload
-        → carried_bits t.carried ≡ [] → Fills B pos false c t
-    fills_last full pb eh ep en =
+    pub fills_last : c.count + n ≡ 66 → more.payload < 2 ^ 64 → carried_bits t.carried ≡ [] → Fills B pos false c more t
+    fills_last full pb en =
         let bits : block_bits B pos c t ≡ listed 66 (bit (block_number more)) = more_bits ∙ ap (λ (k : ℕ). listed k (bit (block_number more))) full in
         record {
           kept = refl;
           whole = ap length bits ∙ length_listed 66 (bit (block_number more));
           header =
-              eh ∙ sym (header_number more.header more.payload head)
+              sym (header_number more.header more.payload head)
               ∙ number_same 2 _ _ (λ i l. sym (ap (λ (x : List ℕ). get_or x i 0) bits ∙ listed_at 66 (bit (block_number more)) i (omega arith)));
           payload =
-              ep ∙ sym (payload_number more.header more.payload head pb)
+              sym (payload_number more.header more.payload head pb)
               ∙ number_same 64 _ _ (λ i l. sym (ap (λ (x : List ℕ). get_or x (2 + i) 0) bits ∙ listed_at 66 (bit (block_number more)) (2 + i) (omega arith)));
           none = en;
         }
 
 -- ---- what is taken, in each of the four cases
 
--- a flag is not both
-never {ℓ} : {P : Type ℓ} {a b : Bool} → a ≡ false → b ≡ true → a ≡ b → P
-never p q r = absurd (let z : ◌≡◌ {A = Bool} false true = cc in let y : ◌≡◌ {A = ℕ} 0 1 = cc in omega arith)
+-- nothing is carried after a skipped bit or a full block
+abbrev pub Empty : Carried → Type 0
+Empty c = (c.count ≡ 0) × (c.header ≡ 0) × (c.payload ≡ 0)
+
+-- .. as `default` promises it
+pub empty : {c : Carried} → (c.count ≡ 0) × ((c.header ≡ 0) × (c.payload ≡ 0)) → Empty c
+empty p = (p.0, p.1.0, p.1.1)
+
+-- it is a block, or none
+same_block : (P : Block → Type 0) {o : Option Block} (b : Block) → o ≡ Some b → P b → (b' : Block) → o ≡ Some b' → P b'
+same_block P b e p b' e' = let s : b ≡ b' = cc in subst P s p
 
 module _ (line : List ℕ) (pos : ℕ) (c : Carried) (here : pos < 8 * length line) (t : Taken) where
   -- the bit is skipped
-  pub takes_skip : t.full ≡ false → (t.carried.count ≡ 0) × (t.carried.header ≡ 0) × (t.carried.payload ≡ 0) → t.next ≡ pos + 1
-      → Takes (line_bits line) pos true c t
+  pub takes_skip : t.block ≡ None → Empty t.carried → t.next ≡ pos + 1 → Takes (line_bits line) pos true c t
   takes_skip ef ec en =
       record {
         past = omega arith;
         within = omega (arith, length_line_bits line);
         sound = sound_none t.carried ec;
-        fills = λ z. never ef z refl;
+        fills = λ b z. cc;
         waits = λ z. record { one = λ y. en; carried = bits_none t.carried ec.0 };
       }
 
   -- a whole block is taken
-  pub takes_whole : c.count ≡ 0 → pos + 66 ≤ 8 * length line → t.full ≡ true → (t.carried.count ≡ 0) × (t.carried.header ≡ 0) × (t.carried.payload ≡ 0)
-      → t.next ≡ pos + 66 → t.header ≡ number 2 (λ i. line_bit line (pos + i)) → t.payload ≡ number 64 (λ i. line_bit line (pos + 2 + i))
+  pub takes_whole : c.count ≡ 0 → pos + 66 ≤ 8 * length line → (b : Block) → t.block ≡ Some b → Empty t.carried
+      → t.next ≡ pos + 66 → b.header ≡ number 2 (λ i. line_bit line (pos + i)) → b.payload ≡ number 64 (λ i. line_bit line (pos + 2 + i))
       → Takes (line_bits line) pos false c t
-  takes_whole e0 room ef ec en eh ep =
+  takes_whole e0 room b ef ec en eh ep =
       record {
         past = omega arith;
         within = omega (arith, length_line_bits line);
         sound = sound_none t.carried ec;
-        fills = λ z. fills_whole line pos c e0 room t en eh ep (bits_none t.carried ec.0);
-        waits = λ z. never z ef refl;
+        fills = same_block (λ x. Fills (line_bits line) pos false c x t) b ef (fills_whole line pos c e0 room t en b eh ep (bits_none t.carried ec.0));
+        waits = λ z. cc;
       }
 
   module _ (sound : Sound c) (n : ℕ) (some : 0 < n) (room : pos + n ≤ 8 * length line) (more : Block) (head : more.header < 4)
       (joins : block_number more ≡ word_of c + number (66 - c.count) (onward line pos) * 2 ^ c.count) (en : t.next ≡ pos + n) where
     -- the line's last bits wait
-    pub takes_rest : t.full ≡ false → t.carried ≡ record { count = c.count + n; header = more.header; payload = more.payload }
+    pub takes_rest : t.block ≡ None → t.carried ≡ record { count = c.count + n; header = more.header; payload = more.payload }
         → c.count + n < 66 → 8 * length line ≤ pos + n → Takes (line_bits line) pos false c t
     unfolding carried_bits
     takes_rest ef ec few last =
@@ -146,18 +153,17 @@ module _ (line : List ℕ) (pos : ℕ) (c : Carried) (here : pos < 8 * length li
           past = omega arith;
           within = omega (arith, length_line_bits line);
           sound = subst Sound (sym ec) (record { few = few; header = head; fits = more_fits line pos c sound n room (omega arith) more head joins t en last });
-          fills = λ z. never ef z refl;
-          waits = λ z. record { one = λ y. never refl y refl; carried = ap carried_bits ec ∙ sym (more_bits line pos c sound n room (omega arith) more head joins t en) };
+          fills = λ b z. cc;
+          waits = λ z. record { one = λ y. cc; carried = ap carried_bits ec ∙ sym (more_bits line pos c sound n room (omega arith) more head joins t en) };
         }
 
     -- the block is filled
-    pub takes_last : t.full ≡ true → (t.carried.count ≡ 0) × (t.carried.header ≡ 0) × (t.carried.payload ≡ 0) → c.count + n ≡ 66 → more.payload < 2 ^ 64
-        → t.header ≡ more.header → t.payload ≡ more.payload → Takes (line_bits line) pos false c t
-    takes_last ef ec full pb eh ep =
+    pub takes_last : t.block ≡ Some more → Empty t.carried → c.count + n ≡ 66 → more.payload < 2 ^ 64 → Takes (line_bits line) pos false c t
+    takes_last ef ec full pb =
         record {
           past = omega arith;
           within = omega (arith, length_line_bits line);
           sound = sound_none t.carried ec;
-          fills = λ z. fills_last line pos c sound n room (omega arith) more head joins t en full pb eh ep (bits_none t.carried ec.0);
-          waits = λ z. never z ef refl;
+          fills = same_block (λ x. Fills (line_bits line) pos false c x t) more ef (fills_last line pos c sound n room (omega arith) more head joins t en full pb (bits_none t.carried ec.0));
+          waits = λ z. cc;
         }

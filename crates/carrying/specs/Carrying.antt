@@ -1,7 +1,8 @@
 -- A reviewer can skip this file. The bits since the last tested block, which the code has as a count and two words, as the list that
 -- the definition of receiving has; and what is taken from the line in one turn.
-use Rattle.std.specs.Prelude.{◌≡◌, Bool, true, false, cond, List, [], ◌++◌, ℕ, ◌+◌, ◌-◌, ◌*◌, ◌^◌, ◌≤◌, ◌<◌, length, get_or, take, drop}
+use Rattle.std.specs.Prelude.{◌≡◌, Bool, true, false, cond, Some, None, List, [], ◌++◌, ℕ, ◌+◌, ◌-◌, ◌*◌, ◌^◌, ◌≤◌, ◌<◌, length, get_or, take, drop}
 use Rattle.bits.specs.Bits.{bit, number, listed}
+use Rattle.line.specs.declared.Block.{Block}
 use Rattle.carrying.specs.declared.Carried.{Carried}
 use Rattle.carrying.specs.declared.Taken.{Taken}
 
@@ -23,12 +24,12 @@ pub record Sound (c : Carried) : Type 0 where
 abbrev pub block_bits : List ℕ → ℕ → Carried → Taken → List ℕ
 block_bits bits pos c t = carried_bits c ++ take (t.next - pos) (drop pos bits)
 
--- a block is full: its header and payload are those of its bits, and nothing is carried on
-pub record Fills (bits : List ℕ) (pos : ℕ) (skip : Bool) (c : Carried) (t : Taken) : Type 0 where
+-- block b is full: its header and payload are those of its bits, and nothing is carried on
+pub record Fills (bits : List ℕ) (pos : ℕ) (skip : Bool) (c : Carried) (b : Block) (t : Taken) : Type 0 where
   pub kept : skip ≡ false
   pub whole : length (block_bits bits pos c t) ≡ 66
-  pub header : t.header ≡ number 2 (λ i. get_or (block_bits bits pos c t) i 0)
-  pub payload : t.payload ≡ number 64 (λ i. get_or (block_bits bits pos c t) (2 + i) 0)
+  pub header : b.header ≡ number 2 (λ i. get_or (block_bits bits pos c t) i 0)
+  pub payload : b.payload ≡ number 64 (λ i. get_or (block_bits bits pos c t) (2 + i) 0)
   pub none : carried_bits t.carried ≡ []
 
 -- no block is full: one bit is skipped, or some wait with those carried
@@ -41,5 +42,5 @@ pub record Takes (bits : List ℕ) (pos : ℕ) (skip : Bool) (c : Carried) (t : 
   pub past : pos < t.next
   pub within : t.next ≤ length bits
   pub sound : Sound t.carried
-  pub fills : t.full ≡ true → Fills bits pos skip c t
-  pub waits : t.full ≡ false → Waits bits pos skip c t
+  pub fills : (b : Block) → t.block ≡ Some b → Fills bits pos skip c b t
+  pub waits : t.block ≡ None → Waits bits pos skip c t

@@ -6,34 +6,23 @@ ghost use Rattle.bits.specs.Bits.{number, line_bit, line_bits};
 ghost use Rattle.line.specs.BlockNumber.{block_number};
 ghost use Rattle.carrying.specs.Carrying.{word_of, Sound, Takes};
 
-use line::{Block, bits_at, header_at, wide};
+use line::{Block, bits_at, header_at};
 
-// The bits since the last tested block, fewer than 66: the header's two, then the payload's, each with the first bit lowest.
-#[derive(Clone, Copy)]
+// The bits since the last tested block, fewer than 66: the header's two, then the payload's, each with the first bit lowest. That they are Sound
+// is asked in clauses and is no invariant: a state that C lends may have any words here.
+#[derive(Clone, Copy, Debug, Default, PartialEq, Eq)]
 pub struct Carried {
     pub count: u64,
     pub header: u64,
     pub payload: u64,
 }
 
-// What is taken from the line: where the line goes on, and a full block or what is carried now.
-#[derive(Clone, Copy)]
+// What is taken from the line: a full block or none, what is carried now, and where the line goes on.
+#[derive(Clone, Copy, Debug, Default, PartialEq, Eq)]
 pub struct Taken {
-    pub full: bool,
-    pub header: u64,
-    pub payload: u64,
+    pub block: Option<Block>,
     pub carried: Carried,
     pub next: usize,
-}
-
-pub fn nothing() -> Carried
-    ensures { (result.count ≡ 0) × (result.header ≡ 0) × (result.payload ≡ 0) }
-{
-    Carried {
-        count: 0,
-        header: 0,
-        payload: 0,
-    }
 }
 
 // The bytes of the line from byte at on, at most eight, as one word.
@@ -41,11 +30,9 @@ fn tail(line: &[u8], at: usize) -> u64
     requires { (at ≤ length line.now) × (length line.now ≤ at + 8) }
     ensures { result ≡ number 64 (λ i. line_bit line.now (8 * at + i)) }
 {
-    let mut i = line.len();
     let mut word = 0;
-    while at < i {
-        i -= 1;
-        word = word * 256 + wide(line[i]);
+    for &byte in line[at..].iter().rev() {
+        word = word * 256 + u64::from(byte);
     }
     word
 }
@@ -89,9 +76,7 @@ fn fill(line: &[u8], pos: usize, c: Carried) -> Taken
     let lacks = 66 - c.count as usize;
     if left < lacks {
         return Taken {
-            full: false,
-            header: 0,
-            payload: 0,
+            block: None,
             carried: Carried {
                 count: c.count + left as u64,
                 header: block.header,
@@ -101,10 +86,8 @@ fn fill(line: &[u8], pos: usize, c: Carried) -> Taken
         };
     }
     Taken {
-        full: true,
-        header: block.header,
-        payload: block.payload,
-        carried: nothing(),
+        block: Some(block),
+        carried: Carried::default(),
         next: pos + lacks,
     }
 }
@@ -116,23 +99,21 @@ pub fn take_at(line: &[u8], pos: usize, skip: bool, c: Carried) -> Taken
 {
     if skip {
         return Taken {
-            full: false,
-            header: 0,
-            payload: 0,
-            carried: nothing(),
+            block: None,
+            carried: Carried::default(),
             next: pos + 1,
         };
     }
-    if c.count == 0 {
-        if pos + 66 <= line.len() * 8 {
-            return Taken {
-                full: true,
-                header: header_at(line, pos),
-                payload: bits_at(line, pos + 2),
-                carried: nothing(),
-                next: pos + 66,
-            };
-        }
+    if c.count == 0 && pos + 66 <= line.len() * 8 {
+        let block = Block {
+            header: header_at(line, pos),
+            payload: bits_at(line, pos + 2),
+        };
+        return Taken {
+            block: Some(block),
+            carried: Carried::default(),
+            next: pos + 66,
+        };
     }
     fill(line, pos, c)
 }

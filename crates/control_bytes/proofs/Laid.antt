@@ -1,94 +1,103 @@
 -- Groups of eight words laid one over the other: what is 0 in all of them. Assumes nothing.
 use Prim.Native.Nat.{ℕ, zero, suc, ◌+◌, ◌*◌, ◌/◌, ◌%◌, ◌^◌, ◌≤◌, ◌<◌, max}
-use mathlib.Core.Path.{◌≡◌, refl, sym, ap, ◌∙◌, subst}
+use mathlib.Core.Path.{◌≡◌, refl, sym, ap, ◌∙◌}
 use mathlib.Core.Bool.{Bool}
 use mathlib.Core.List.{List, [], ◌∷◌}
-use native.Mathlib.Nat.{add-zero}
 use native.Mathlib.Omega.{arith}
 use lib.Bits.{bit_and, bit_or, or_add_and, and_le_l, and_le_r}
 use lib.Dec.{T, eqb, eqb→eq}
-use lib.ListN.{length, get_or}
+use lib.ListN.{length, get_or, take, drop}
+use lib.Seq.{drop-drop}
 use Rattle.bits.specs.Bits.{bit, number, stream_bit, line_bit}
 use Rattle.bits.proofs.Laws.{by_lt, bit_shr, bit_none, bit-or, bit-and, bit_number, same_bits}
-use Rattle.bits.proofs.Lists.{line_bit_lt, line_bit_is}
+use Rattle.bits.proofs.Lists.{line_bit_lt, line_bit_is, line_bit_part}
 use Rattle.bits.proofs.Tests.{each, at as place}
-use Rattle.control_bytes.specs.declared.Over.{Over}
-use Rattle.control_bytes.specs.Laid.{fields, over_bit}
+use Rattle.std.specs.Simd.{first_chunks}
 
 -- five numbers with five others, one by one
-module _ (f : ℕ → ℕ → ℕ) (z : f 0 0 ≡ 0) (a b c d e a' b' c' d' e' : ℕ) where
-  paired : (i : ℕ)
-      → get_or (f a a' ∷ f b b' ∷ f c c' ∷ f d d' ∷ f e e' ∷ []) i 0
-      ≡ f (get_or (a ∷ b ∷ c ∷ d ∷ e ∷ []) i 0) (get_or (a' ∷ b' ∷ c' ∷ d' ∷ e' ∷ []) i 0)
-  paired zero = refl
-  paired (suc zero) = refl
-  paired (suc (suc zero)) = refl
-  paired (suc (suc (suc zero))) = refl
-  paired (suc (suc (suc (suc zero)))) = refl
-  paired (suc (suc (suc (suc (suc i))))) = sym z
+module _ (f : ℕ → ℕ → ℕ) (z : f 0 0 ≡ 0) (o : ℕ → ℕ) (a b c d e : ℕ) where
+  abbrev five : List ℕ
+  five = a ∷ b ∷ c ∷ d ∷ e ∷ []
+
+  paired : (i : ℕ) → i < 5 → get_or (f (o 0) a ∷ f (o 1) b ∷ f (o 2) c ∷ f (o 3) d ∷ f (o 4) e ∷ []) i 0 ≡ f (o i) (get_or five i 0)
+  paired zero l = refl
+  paired (suc zero) l = refl
+  paired (suc (suc zero)) l = refl
+  paired (suc (suc (suc zero))) l = refl
+  paired (suc (suc (suc (suc zero)))) l = refl
+  paired (suc (suc (suc (suc (suc i))))) l = absurd (omega arith)
 
 -- ---- one more group
 
--- eight bytes from a place on, and the 40 of a group
+-- the eight bytes from a place on
 abbrev loaded : List ℕ → ℕ → ℕ
-loaded bytes k = number 64 (λ i. line_bit bytes (8 * k + i))
+loaded group k = number 64 (λ i. line_bit group (8 * k + i))
 
-abbrev group : List ℕ → ℕ → List ℕ
-group bytes at = loaded bytes at ∷ loaded bytes (at + 8) ∷ loaded bytes (at + 16) ∷ loaded bytes (at + 24) ∷ loaded bytes (at + 32) ∷ []
+module _ (group : List ℕ) where
+  abbrev numbers : List ℕ
+  numbers = loaded group 0 ∷ loaded group 8 ∷ loaded group 16 ∷ loaded group 24 ∷ loaded group 32 ∷ []
 
-module _ (bytes : List ℕ) (at : ℕ) where
-  group_at : (i : ℕ) → i < 5 → get_or (group bytes at) i 0 ≡ loaded bytes (at + 8 * i)
-  group_at zero l = ap (loaded bytes) (sym (add-zero at))
-  group_at (suc zero) l = refl
-  group_at (suc (suc zero)) l = refl
-  group_at (suc (suc (suc zero))) l = refl
-  group_at (suc (suc (suc (suc zero)))) l = refl
-  group_at (suc (suc (suc (suc (suc i))))) l = absurd (omega arith)
+  number_at : (i : ℕ) → i < 5 → get_or numbers i 0 ≡ loaded group (8 * i)
+  number_at zero l = refl
+  number_at (suc zero) l = refl
+  number_at (suc (suc zero)) l = refl
+  number_at (suc (suc (suc zero))) l = refl
+  number_at (suc (suc (suc (suc zero)))) l = refl
+  number_at (suc (suc (suc (suc (suc i))))) l = absurd (omega arith)
 
-  group_bit : (n : ℕ) → n < 320 → stream_bit 64 (group bytes at) n ≡ line_bit bytes (8 * at + n)
+  group_bit : (n : ℕ) → n < 320 → stream_bit 64 numbers n ≡ line_bit group n
   unfolding stream_bit
   group_bit n l =
-      let e : 8 * (at + 8 * (n / 64)) + n % 64 ≡ 8 * at + n = omega arith in
-      ap (λ (x : ℕ). bit x (n % 64)) (group_at (n / 64) (omega arith))
-      ∙ bit_number 64 (λ i. line_bit bytes (8 * (at + 8 * (n / 64)) + i)) (λ i m. line_bit_lt bytes _) (n % 64) (omega arith)
-      ∙ ap (line_bit bytes) e
+      let e : 8 * (8 * (n / 64)) + n % 64 ≡ n = omega arith in
+      ap (λ (x : ℕ). bit x (n % 64)) (number_at (n / 64) (omega arith))
+      ∙ bit_number 64 (λ i. line_bit group (8 * (8 * (n / 64)) + i)) (λ i m. line_bit_lt group _) (n % 64) (omega arith)
+      ∙ ap (line_bit group) e
 
   -- its bits over those of the groups before
-  pub join : (o : Over) (a b c d e : ℕ) → a ≡ loaded bytes at → b ≡ loaded bytes (at + 8) → c ≡ loaded bytes (at + 16)
-      → d ≡ loaded bytes (at + 24) → e ≡ loaded bytes (at + 32) → (n : ℕ) → n < 320
-      → over_bit (record { a = bit_or o.a a; b = bit_or o.b b; c = bit_or o.c c; d = bit_or o.d d; e = bit_or o.e e }) n
-      ≡ max (over_bit o n) (line_bit bytes (8 * at + n))
+  pub join : (over : List ℕ) (a b c d e : ℕ) → a ≡ loaded group 0 → b ≡ loaded group 8 → c ≡ loaded group 16 → d ≡ loaded group 24 → e ≡ loaded group 32
+      → (n : ℕ) → n < 320
+      → stream_bit 64 (bit_or (get_or over 0 0) a ∷ bit_or (get_or over 1 0) b ∷ bit_or (get_or over 2 0) c ∷ bit_or (get_or over 3 0) d ∷ bit_or (get_or over 4 0) e ∷ []) n
+      ≡ max (stream_bit 64 over n) (line_bit group n)
   unfolding stream_bit
-  join o a b c d e p q r s t n l =
-      ap (λ (x : ℕ). bit x (n % 64)) (paired bit_or refl o.a o.b o.c o.d o.e a b c d e (n / 64))
-      ∙ bit-or (get_or (fields o) (n / 64) 0) (get_or (a ∷ b ∷ c ∷ d ∷ e ∷ []) (n / 64) 0) (n % 64)
-      ∙ ap (max (over_bit o n)) (ap (λ (x : List ℕ). stream_bit 64 x n) (λ i. p i ∷ q i ∷ r i ∷ s i ∷ t i ∷ []) ∙ group_bit n l)
+  join over a b c d e p q r s t n l =
+      ap (λ (x : ℕ). bit x (n % 64)) (paired bit_or refl (λ i. get_or over i 0) a b c d e (n / 64) (omega arith))
+      ∙ bit-or (get_or over (n / 64) 0) (get_or (a ∷ b ∷ c ∷ d ∷ e ∷ []) (n / 64) 0) (n % 64)
+      ∙ ap (max (stream_bit 64 over n)) (ap (λ (x : List ℕ). stream_bit 64 x n) (λ i. p i ∷ q i ∷ r i ∷ s i ∷ t i ∷ []) ∙ group_bit n l)
 
 -- ---- all groups
 
+-- the groups of a list of words
+abbrev pub groups : List ℕ → List (List ℕ)
+groups bytes = first_chunks 40 (length bytes / 40) bytes
+
+group_at : (k i : ℕ) (bytes : List ℕ) → i < k → get_or (first_chunks 40 k bytes) i [] ≡ take 40 (drop (40 * i) bytes)
+group_at zero i bytes l = absurd (omega arith)
+group_at (suc k) zero bytes l = refl
+group_at (suc k) (suc i) bytes l =
+    let e : 40 * i + 40 ≡ 40 * suc i = omega arith in
+    group_at k i (drop 40 bytes) (omega arith) ∙ ap (take 40) (drop-drop (40 * i) 40 bytes ∙ ap (λ (n : ℕ). drop n bytes) (omega (arith, e)))
+
 -- A bit that is 0 in what is laid one over the other is 0 in each group so far.
-pub record LaidSofar (bytes : List ℕ) (o : Over) (at : ℕ) : Type 0 where
-  pub groups : at % 40 ≡ 0
-  pub inside : at ≤ length bytes
-  pub zeros : (n : ℕ) → n < 320 → over_bit o n ≡ 0 → (g : ℕ) → 40 * g < at → line_bit bytes (320 * g + n) ≡ 0
+pub record LaidSofar (bytes over : List ℕ) (count : ℕ) : Type 0 where
+  pub zeros : (n : ℕ) → n < 320 → stream_bit 64 over n ≡ 0 → (g : ℕ) → g < count → line_bit bytes (320 * g + n) ≡ 0
 
-pub first : (bytes : List ℕ) (o : Over) → LaidSofar bytes o 0
-first bytes o = record { groups = refl; inside = omega arith; zeros = λ n l z g m. absurd (omega arith) }
+pub first : (bytes over : List ℕ) → LaidSofar bytes over 0
+first bytes over = record { zeros = λ n l z g m. absurd (omega arith) }
 
-pub turn : (bytes : List ℕ) (o r : Over) (at : ℕ) → length bytes % 40 ≡ 0 → at < length bytes → LaidSofar bytes o at
-    → ((n : ℕ) → n < 320 → over_bit r n ≡ max (over_bit o n) (line_bit bytes (8 * at + n))) → LaidSofar bytes r (at + 40)
-turn bytes o r at z l w f =
+pub turn : (bytes over group next : List ℕ) (count : ℕ) → count < length bytes / 40 → group ≡ get_or (groups bytes) count [] → LaidSofar bytes over count
+    → ((n : ℕ) → n < 320 → stream_bit 64 next n ≡ max (stream_bit 64 over n) (line_bit group n)) → LaidSofar bytes next (count + 1)
+turn bytes over group next count l here w f =
     record {
-      groups = omega (arith, w.groups);
-      inside = omega (arith, w.groups, w.inside);
       zeros =
           λ n k q g m.
-          by_lt (40 * g) at
+          by_lt g count
           (λ h. w.zeros n k (omega (arith, f n k)) g h)
           (λ h.
-          let e : 8 * at + n ≡ 320 * g + n = omega (arith, w.groups) in
-          let x : line_bit bytes (8 * at + n) ≡ 0 = omega (arith, f n k) in
-          subst (λ (i : ℕ). line_bit bytes i ≡ 0) e x);
+          let e : 8 * (40 * count) + n ≡ 320 * g + n = omega arith in
+          let x : line_bit group n ≡ 0 = omega (arith, f n k) in
+          let y : line_bit group n ≡ line_bit bytes (320 * g + n) =
+          ap (λ (s : List ℕ). line_bit s n) (here ∙ group_at (length bytes / 40) count bytes l) ∙ line_bit_part bytes 40 (40 * count) n (omega arith) ∙ ap (line_bit bytes) e in
+          sym y ∙ x);
     }
 
 -- ---- what is not set
@@ -122,31 +131,32 @@ abbrev asks_all : List ℕ → Bool
 asks_all masks = each (λ j. each (asks masks j) 0 4) 0 8
 
 -- the five masks, as the code has them, and that nothing they ask for is set
-module _ (o : Over) (p q r s t : ℕ) where
+module _ (over : List ℕ) (p q r s t : ℕ) where
   abbrev masks : List ℕ
   masks = p ∷ q ∷ r ∷ s ∷ t ∷ []
 
   abbrev others : List ℕ
-  others = bit_and o.b q ∷ bit_and o.c r ∷ bit_and o.d s ∷ bit_and o.e t ∷ []
+  others = bit_and (get_or over 1 0) q ∷ bit_and (get_or over 2 0) r ∷ bit_and (get_or over 3 0) s ∷ bit_and (get_or over 4 0) t ∷ []
 
-  module _ (z : ors (bit_and o.a p) others ≡ 0) where
-    not_set : (n : ℕ) → stream_bit 64 masks n ≡ 1 → over_bit o n ≡ 0
+  module _ (z : ors (bit_and (get_or over 0 0) p) others ≡ 0) where
+    not_set : (n : ℕ) → n < 320 → stream_bit 64 masks n ≡ 1 → stream_bit 64 over n ≡ 0
     unfolding stream_bit
-    not_set n h =
-        let x = get_or (fields o) (n / 64) 0 in
+    not_set n l h =
+        let x = get_or over (n / 64) 0 in
         let y = get_or masks (n / 64) 0 in
-        let e : bit_and x y ≡ 0 = sym (paired bit_and refl o.a o.b o.c o.d o.e p q r s t (n / 64)) ∙ none_of (bit_and o.a p) others z (n / 64) in
+        let e : bit_and x y ≡ 0 = sym (paired bit_and refl (λ i. get_or over i 0) p q r s t (n / 64) (omega arith)) ∙ none_of (bit_and (get_or over 0 0) p) others z (n / 64) in
         omega (arith, sym (bit-and x y (n % 64)) ∙ ap (λ (m : ℕ). bit m (n % 64)) e ∙ bit_none (n % 64))
 
-    pub done : (bytes : List ℕ) (at : ℕ) → ((n : ℕ) → get_or bytes n 0 < 256) → LaidSofar bytes o at → length bytes ≤ at → T (asks_all masks)
+    pub done : (bytes : List ℕ) → ((n : ℕ) → get_or bytes n 0 < 256) → length bytes % 40 ≡ 0 → (count : ℕ) → length bytes / 40 ≤ count → LaidSofar bytes over count
+        → T (asks_all masks)
         → (i : ℕ) → 5 * i < length bytes → get_or bytes (5 * i) 0 < 16
-    done bytes at small w all k i l =
+    done bytes small whole count reached w all i l =
         low_byte (get_or bytes (5 * i) 0) (small (5 * i))
         (λ b m.
         let n = 40 * (i % 8) + (4 + b) in
         let e : 8 * (5 * i) + (4 + b) ≡ 320 * (i / 8) + n = omega arith in
-        let a : T (each (asks masks (i % 8)) 0 4) = place (λ j. each (asks masks j) 0 4) 8 k (i % 8) (omega arith) in
+        let a : T (each (asks masks (i % 8)) 0 4) = place (λ j. each (asks masks j) 0 4) 8 all (i % 8) (omega arith) in
         let h : stream_bit 64 masks n ≡ 1 = eqb→eq _ 1 (place (asks masks (i % 8)) 4 a b m) in
         sym (line_bit_is bytes (8 * (5 * i) + (4 + b)) (5 * i) (4 + b) refl (omega arith))
         ∙ ap (line_bit bytes) e
-        ∙ w.zeros n (omega arith) (not_set n h) (i / 8) (omega arith))
+        ∙ w.zeros n (omega arith) (not_set n (omega arith) h) (i / 8) (omega arith))

@@ -1,50 +1,33 @@
 // The control bytes of a list of words: where the first above 15 is.
 #![tactic(auto)]
 
-ghost use Rattle.std.specs.Prelude.{◌≡◌, true, ℕ, ◌+◌, ◌*◌, ◌%◌, ◌<◌, ◌≤◌, max, length, get_or};
-ghost use Rattle.bits.specs.Bits.{line_bit};
+ghost use Rattle.std.specs.Prelude.{◌≡◌, true, ℕ, ◌*◌, ◌/◌, ◌%◌, ◌<◌, max, length, get_or, position, nat_lt, slice_index, MatchOption};
+ghost use Rattle.std.specs.Simd.{first_chunks};
+ghost use Rattle.bits.specs.Bits.{stream_bit, line_bit};
 ghost use Rattle.control_bytes.specs.Control.{high_control};
-ghost use Rattle.control_bytes.specs.Laid.{over_bit};
 
 use line::load;
 
-// The byte offset of the first control byte above 15; where there is none, the end of the words.
-fn high_control(bytes: &[u8]) -> usize
-    ensures { result ≡ high_control bytes.now }
+// The first word whose control byte is above 15.
+fn high_word(bytes: &[u8]) -> Option<usize>
+    ensures { result ≡ position (λ w. nat_lt 15 (slice_index w 0)) (first_chunks 5 (length bytes.now / 5) bytes.now) }
 {
-    let n = bytes.len();
-    let mut at: usize = 0;
-    while 5 <= n - at {
-        if 15 < bytes[at] {
-            return at;
-        }
-        at = at + 5;
-    }
-    at
+    let (words, _) = bytes.as_chunks::<5>();
+    words.iter().position(|word| 15 < word[0])
 }
 
-// Groups of eight words, which are 320 bits, one over the other: a bit is set where it is in one of them. They are 64 to a field, the first lowest.
-#[derive(Clone, Copy)]
-struct Over {
-    a: u64,
-    b: u64,
-    c: u64,
-    d: u64,
-    e: u64,
-}
-
-// One more group laid over them.
-fn joined(o: Over, bytes: &[u8], at: usize) -> Over
-    requires { at + 40 ≤ length bytes.now }
-    ensures { (n : ℕ) → n < 320 → over_bit result n ≡ max (over_bit o n) (line_bit bytes.now (8 * at + n)) }
+// One more group of eight words laid over those before: a bit of the 320 is set where it is in one of them. They are 64 to a number, the first
+// lowest.
+fn joined(over: [u64; 5], group: &[u8; 40]) -> [u64; 5]
+    ensures { (n : ℕ) → n < 320 → stream_bit 64 result n ≡ max (stream_bit 64 over n) (line_bit group.now n) }
 {
-    Over {
-        a: o.a | load(bytes, at),
-        b: o.b | load(bytes, at + 8),
-        c: o.c | load(bytes, at + 16),
-        d: o.d | load(bytes, at + 24),
-        e: o.e | load(bytes, at + 32),
-    }
+    [
+        over[0] | load(group, 0),
+        over[1] | load(group, 8),
+        over[2] | load(group, 16),
+        over[3] | load(group, 24),
+        over[4] | load(group, 32),
+    ]
 }
 
 // Whether all control bytes of whole groups are seen at once to be below 16: none of their four high bits is set.
@@ -52,34 +35,27 @@ fn all_low(bytes: &[u8]) -> bool
     requires { length bytes.now % 40 ≡ 0 }
     ensures { result ≡ true → (i : ℕ) → 5 * i < length bytes.now → get_or bytes.now (5 * i) 0 < 16 }
 {
-    let n = bytes.len();
-    let mut o = Over {
-        a: 0,
-        b: 0,
-        c: 0,
-        d: 0,
-        e: 0,
-    };
-    let mut at: usize = 0;
-    while at < n {
-        o = joined(o, bytes, at);
-        at = at + 40;
+    let (groups, _) = bytes.as_chunks::<40>();
+    let mut over = [0; 5];
+    for group in groups {
+        over = joined(over, group);
     }
-    (o.a & 0x0000_f000_0000_00f0)
-        | (o.b & 0xf000_0000_00f0_0000)
-        | (o.c & 0x0000_00f0_0000_0000)
-        | (o.d & 0x00f0_0000_0000_f000)
-        | (o.e & 0x0000_0000_f000_0000)
+    (over[0] & 0x0000_f000_0000_00f0)
+        | (over[1] & 0xf000_0000_00f0_0000)
+        | (over[2] & 0x0000_00f0_0000_0000)
+        | (over[3] & 0x00f0_0000_0000_f000)
+        | (over[4] & 0x0000_0000_f000_0000)
         == 0
 }
 
-// The same place, of whole groups: it is looked for only where there is one.
-pub fn first_high(bytes: &[u8]) -> usize
+// The byte offset of the first control byte above 15 of whole groups. It is looked for only where there is one.
+pub fn first_high(bytes: &[u8]) -> Option<usize>
     requires { length bytes.now % 40 ≡ 0 }
-    ensures { result ≡ high_control bytes.now }
+    ensures { MatchOption result (high_control bytes.now ≡ length bytes.now) (λ p. (p ≡ high_control bytes.now) × (p < length bytes.now)) }
 {
     if all_low(bytes) {
-        return bytes.len();
+        return None;
     }
-    high_control(bytes)
+    let word = high_word(bytes)?;
+    Some(5 * word)
 }

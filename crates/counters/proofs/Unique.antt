@@ -2,10 +2,12 @@
 use Prim.Native.Nat.{ℕ}
 use mathlib.Core.Path.{◌≡◌, sym, ◌∙◌}
 use mathlib.Core.List.{List}
+use Rattle.std.specs.Prelude.{Result}
+use Rattle.refusals.specs.declared.Refused.{Refused}
 use Rattle.reception.proofs.Unique as receiving
 use Rattle.receiving.specs.declared.Counts.{Counts}
 use Rattle.receiving.specs.declared.Handed.{Handed}
-use Rattle.receiving.specs.declared.Received.{Received}
+use Rattle.receiving.specs.declared.Summary.{Summary}
 use Rattle.counters.specs.Counters.{becomes, updated, ReceivesCounting}
 use Rattle.counters.specs.declared.Counters.{Counters}
 use Rattle.counters.specs.declared.Counted.{Counted}
@@ -19,7 +21,7 @@ pub add_counts_unique : (c r r' : Counters) (n : Counts) (h : Handed) → r ≡ 
 add_counts_unique c r r' n h p q = p ∙ sym q
 
 -- `receive`: the answer, every byte of the room and each counter
-pub receive_unique : (edition : ℕ) (line room room₁ room₂ : List ℕ) (c c₁ c₂ : Counters) (a b : Received) → ReceivesCounting edition line room c a room₁ c₁ → ReceivesCounting edition line room c b room₂ c₂ → (a ≡ b) × ((room₁ ≡ room₂) × (c₁ ≡ c₂))
+pub receive_unique : (edition : ℕ) (line room room₁ room₂ : List ℕ) (c c₁ c₂ : Counters) (a b : Result Summary Refused) → ReceivesCounting edition line room c a room₁ c₁ → ReceivesCounting edition line room c b room₂ c₂ → (a ≡ b) × ((room₁ ≡ room₂) × (c₁ ≡ c₂))
 receive_unique edition line room room₁ room₂ c c₁ c₂ a b (p, m) (q, n) =
     let same : (a ≡ b) × (room₁ ≡ room₂) = receiving.receive_unique edition line room room₁ room₂ a b p q in
     (same.0, (same.1, m ∙ sym n))

@@ -1,9 +1,10 @@
 -- Document 02, 3/13: "A counters record is lent to each call and updated in place".
-use Rattle.std.specs.Prelude.{ℕ, ◌+◌, min, ◌≡◌, List, length}
+use Rattle.std.specs.Prelude.{ℕ, ◌+◌, min, ◌≡◌, List, length, Result}
+use Rattle.refusals.specs.declared.Refused.{Refused}
 use Rattle.receiving.specs.Answer.{ReceiveAnswer, received, refused, receive_answer, Receives}
 use Rattle.receiving.specs.declared.Counts.{Counts}
 use Rattle.receiving.specs.declared.Handed.{Handed}
-use Rattle.receiving.specs.declared.Received.{Received}
+use Rattle.receiving.specs.declared.Summary.{Summary}
 use Rattle.counters.specs.declared.Counters.{Counters}
 
 -- "each field becomes its old number plus what this receiving call added, and stays at 4,294,967,295 once it would pass that"
@@ -30,5 +31,5 @@ counters_after c (received s) = updated c s.counts s.handed
 counters_after c (refused number place) = c
 
 -- the promise: `receive` was lent `room` and the counters `c` too, answered `r` and left `room'` and `c'`
-abbrev pub ReceivesCounting : (edition : ℕ) (line room : List ℕ) (c : Counters) (r : Received) (room' : List ℕ) (c' : Counters) → Type 0
+abbrev pub ReceivesCounting : (edition : ℕ) (line room : List ℕ) (c : Counters) (r : Result Summary Refused) (room' : List ℕ) (c' : Counters) → Type 0
 ReceivesCounting edition line room c r room' c' = Receives edition line room r room' × (c' ≡ counters_after c (receive_answer edition line (length room)))

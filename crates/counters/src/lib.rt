@@ -4,7 +4,8 @@
 ghost use Rattle.std.specs.Prelude.{◌≡◌};
 ghost use Rattle.counters.specs.Counters.{becomes, updated, ReceivesCounting};
 
-use receiving::{Counts, Handed, Received};
+use receiving::{Counts, Handed, Summary};
+use refusals::Refused;
 
 // The firmware's running total: tested, slips, the four reasons, frames begun, vectors replaced.
 #[derive(Clone, Copy)]
@@ -22,19 +23,16 @@ pub struct Counters {
 // What a receiving call answers, and the counters after it.
 #[derive(Clone, Copy)]
 pub struct Counted {
-    pub answer: Received,
+    pub answer: Result<Summary, Refused>,
     pub counters: Counters,
 }
 
 // An old number with what was added to it.
+#[tactic(auto, unfolding(crate::specs::Counters::becomes))]
 pub fn add(old: u32, added: u64) -> u32
     ensures { result ≡ becomes old added }
 {
-    let space = 4294967295 - old;
-    if (space as u64) < added {
-        return 4294967295;
-    }
-    old + added as u32
+    u64::from(old).saturating_add(added).min(4294967295) as u32
 }
 
 // All counters with what a call added.
@@ -53,33 +51,29 @@ pub fn add_counts(c: Counters, n: Counts, h: Handed) -> Counters
     }
 }
 
-// Receiving with counters by value: they come back with what the call added, or as they were.
+// Receiving with counters by value: they come back with what the call added, or as they were. The edition is a number, as C hands it over
+// (`holzmotte_receive`).
 pub fn receive_by_value(edition: u64, line: &[u8], room: &mut [u8], c: Counters) -> Counted
     ensures { ReceivesCounting edition line.now room.old c result.answer room.new result.counters }
 {
     let answer = reception::receive(edition, line, room);
-    match answer {
-        Received::Done(s) => {
-            let n = s.counts;
-            let h = s.handed;
-            Counted {
-                answer: answer,
-                counters: add_counts(c, n, h),
-            }
-        }
-        Received::Refused(_, _) => Counted {
-            answer: answer,
-            counters: c,
-        },
-    }
+    let counters = match answer {
+        Ok(s) => add_counts(c, s.counts, s.handed),
+        Err(_) => c,
+    };
+    Counted { answer, counters }
 }
 
 // Receiving with a lent record of counters, which is updated in place.
-pub fn receive(edition: u64, line: &[u8], room: &mut [u8], counters: &mut Counters) -> Received
+pub fn receive(
+    edition: u64,
+    line: &[u8],
+    room: &mut [u8],
+    counters: &mut Counters,
+) -> Result<Summary, Refused>
     ensures { ReceivesCounting edition line.now room.old counters.old result room.new counters.new }
 {
     let r = receive_by_value(edition, line, room, *counters);
-    let after = r.counters;
-    *counters = after;
+    *counters = r.counters;
     r.answer
 }

@@ -11,17 +11,18 @@ use Rattle.register.specs.Register.{flip}
 use Rattle.block.specs.Block.{edition_of, vectors_in}
 use Rattle.bits.proofs.Tests.{all}
 use Rattle.block.proofs.Near.{apart}
+use Rattle.std.specs.Prelude.{Result, Ok}
+use Rattle.refusals.specs.declared.Refused.{Refused}
 use Rattle.refusals.specs.First.{Verdict, first, accepted, by_verdict}
 use Rattle.block.proofs.Vectors.{length_vectors, vectors_in_lem}
 use Rattle.receiving.proofs.Tens.{vectors_tens}
 use Rattle.transmit.specs.Send.{error_block, blocks_for, sent_line}
 use Rattle.sending.specs.Answer.{Sends}
 use Rattle.sending.specs.declared.Sending.{Sending}
-use Rattle.sending.specs.declared.Sent.TheVariants as Sent
 use Rattle.receiving.specs.Receive.{vectors_of, received_vectors}
 use Rattle.receiving.specs.Answer as Receiving
 use Rattle.receiving.specs.Answer.{Receives}
-use Rattle.receiving.specs.declared.Received.{Received}
+use Rattle.receiving.specs.declared.Summary.{Summary}
 use Rattle.demands.specs.Words.{SendAccepts, Unbroken}
 use Rattle.demands.proofs.Accepted.{known, not_long}
 use Rattle.demands.proofs.Calls.{done_accepts, length_sent, line_stands, received_too}
@@ -31,7 +32,7 @@ use Rattle.damage.proofs.Demand3.{tested, outlived, more_apart}
 
 -- ---- what `receive` leaves
 
-module _ (edition : ℕ) (line out : List ℕ) (r : Received) (out' : List ℕ) (receives : Receives edition line out r out')
+module _ (edition : ℕ) (line out : List ℕ) (r : Result Summary Refused) (out' : List ℕ) (receives : Receives edition line out r out')
     (ok : first (Receiving.receive_checks edition (length line) (length out)) ≡ accepted) where
   -- what is then answered
   answer_is : Receiving.answer_of r ≡ Receiving.received (Receiving.summary_of (edition_of edition) line)
@@ -55,7 +56,7 @@ unfolding damaged
 length_damaged line f = length_cut 8 (length line) (flip (line_bit line) f)
 
 module _ (edition most : ℕ) (far : T (all (apart (edition_of edition) most))) (small : most < 16) (bytes : List ℕ) (start : ℕ) (room room' : List ℕ) (s : Sending)
-    (sends : Sends edition bytes start room (Sent.Done s) room') (f : ℕ → ℕ) (flips : Flips most (line_in room' bytes) f) (out out' : List ℕ) (r : Received)
+    (sends : Sends edition bytes start room (Ok s) room') (f : ℕ → ℕ) (flips : Flips most (line_in room' bytes) f) (out out' : List ℕ) (r : Result Summary Refused)
     (receives : Receives edition (damaged (line_in room' bytes) f) out r out') (enough : length bytes ≤ length out) where
   -- the list was accepted, and its line stands in the room
   ok : SendAccepts edition bytes start (length room)

@@ -3,8 +3,9 @@
 -- the same control flags, control characters and ordered set codes as the block that was sent; in the second case a data bit
 -- differs exactly when an odd number of flipped payload bits stand 0, 39 or 58 payload bits before it." In the newer edition of document
 -- 02, 9/13, at most one bit.
-use Rattle.std.specs.Prelude.{ℕ, ◌+◌, ◌*◌, ◌/◌, ◌%◌, ◌≤◌, ◌<◌, ◌≡◌, List, [], ◌≢◌, ◌↔◌, ◌⊎◌, length, get_or, take}
+use Rattle.std.specs.Prelude.{ℕ, ◌+◌, ◌*◌, ◌/◌, ◌%◌, ◌≤◌, ◌<◌, ◌≡◌, List, [], ◌≢◌, ◌↔◌, ◌⊎◌, Result, Ok, length, get_or, take}
 use Rattle.bits.specs.Bits.{bit}
+use Rattle.refusals.specs.declared.Refused.{Refused}
 use Rattle.line.specs.declared.Block.{Block}
 use Rattle.block.specs.declared.Edition.{Edition}
 use Rattle.block.specs.declared.Edition.TheVariants.{Old, New}
@@ -12,10 +13,9 @@ use Rattle.block.specs.Block.{edition_of, Format, format_of, decoded, error_vect
 use Rattle.transmit.specs.Send.{error_block, blocks_for, sent_line}
 use Rattle.sending.specs.Answer.{Sends}
 use Rattle.sending.specs.declared.Sending.{Sending}
-use Rattle.sending.specs.declared.Sent.TheVariants as Sent
 use Rattle.receiving.specs.Receive.{vectors_of}
 use Rattle.receiving.specs.Answer.{answer_of, received, summary_of, Receives}
-use Rattle.receiving.specs.declared.Received.{Received}
+use Rattle.receiving.specs.declared.Summary.{Summary}
 use Rattle.demands.specs.Words.{SendAccepts, Unbroken}
 use Rattle.damage.specs.Damage.{damaged, Flips, flips_before}
 
@@ -80,10 +80,10 @@ line_in room bytes = take (33 * (length bytes / 40)) room
 abbrev pub Demand3OfCalls : (edition most : ℕ) → Type 0
 Demand3OfCalls edition most =
     (bytes : List ℕ) (start : ℕ) (room room' : List ℕ) (s : Sending)
-    → Sends edition bytes start room (Sent.Done s) room'
+    → Sends edition bytes start room (Ok s) room'
     → (flips : ℕ → ℕ)
     → Flips most (line_in room' bytes) flips
-    → (out out' : List ℕ) (r : Received)
+    → (out out' : List ℕ) (r : Result Summary Refused)
     → Receives edition (damaged (line_in room' bytes) flips) out r out'
     → length bytes ≤ length out
     → (answer_of r ≡ received (summary_of (edition_of edition) (damaged (line_in room' bytes) flips)))

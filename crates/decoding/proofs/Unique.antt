@@ -6,7 +6,7 @@ use Rattle.block.specs.declared.Edition.{Edition}
 use Rattle.block.specs.declared.Kind.{Kind}
 use Rattle.block.specs.declared.Class.{Class}
 use Rattle.block.specs.Block.{decoded, good, class_of, kind_in}
-use Rattle.decoding.specs.declared.Decoded.{Decoded}
+use Rattle.quick_decoding.specs.declared.Decoded.{Decoded}
 use Rattle.vectors.specs.Vector.{vector_bytes}
 use Rattle.vectors.proofs.Unique.{vector_same}
 

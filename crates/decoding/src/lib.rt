@@ -6,19 +6,13 @@ ghost use Rattle.block.specs.Block.{error_vector, decoded_by, decoded, good, cla
 ghost use Rattle.block.specs.Rows.{row};
 ghost use Rattle.vectors.specs.Vector.{vector_bytes};
 ghost use Rattle.shapes.specs.Shapes.{OfFormat};
+ghost use Rattle.decoding.specs.Halves.{both};
 
 use block::{Class, Edition, Kind, Reason};
 use characters::four;
-use quick_decoding::quick;
+use quick_decoding::{Decoded, quick};
 use shapes::{Shape, shape_of};
 use vectors::{Vector, bytes_of};
-
-// What a block decodes to: its class, and its vector, the error vector where it is bad.
-#[derive(Clone, Copy)]
-pub struct Decoded {
-    pub class: Class,
-    pub vector: Vector,
-}
 
 // The kind of a class.
 pub fn kind_in(c: Class) -> Kind
@@ -63,31 +57,43 @@ fn bad(why: Reason) -> Decoded
     }
 }
 
+// Both halves of a vector's lanes; else why not, a control code's fault before one of an ordered set.
+fn both(low: Result<u32, Reason>, high: Result<u32, Reason>) -> Result<(u32, u32), Reason>
+    ensures { result ≡ both low high }
+{
+    match (low, high) {
+        (Ok(d0), Ok(d1)) => Ok((d0, d1)),
+        (Err(Reason::ControlCode), _) | (_, Err(Reason::ControlCode)) => Err(Reason::ControlCode),
+        _ => Err(Reason::SetCode),
+    }
+}
+
 // A block of row r, with its shape.
 fn decode_row(edition: Edition, r: usize, s: Shape, x: u64) -> Decoded
     requires { (r < 16) × OfFormat (row r) s }
     ensures { (result.class ≡ class_by edition (row r) x) × (vector_bytes result.vector ≡ decoded_by edition (row r) x) }
 {
-    let a = four(edition, s.places, s.slots, x);
-    let b = four(edition, s.places / 4294967296, s.slots / 4294967296, x);
-    if a.over + b.over == 0 {
-        return Decoded {
-            class: good_class(tables::kind_of(r, s.c0, a.lanes, s.c1, b.lanes)),
-            vector: Vector {
+    let low = four(edition, s.places, s.slots, x);
+    let high = four(edition, s.places >> 32, s.slots >> 32, x);
+    match both(low, high) {
+        Ok((d0, d1)) => {
+            let vector = Vector {
                 c0: s.c0,
-                d0: a.lanes,
                 c1: s.c1,
-                d1: b.lanes,
-            },
-        };
+                d0,
+                d1,
+            };
+            Decoded {
+                class: good_class(tables::kind_of(r, vector)),
+                vector,
+            }
+        }
+        Err(why) => bad(why),
     }
-    if a.bad + b.bad == 0 {
-        return bad(Reason::SetCode);
-    }
-    bad(Reason::ControlCode)
 }
 
-// A control block.
+// A control block. Kept out of line, so that the quick way in `decode` stays short.
+#[inline(never)]
 fn decode_control(edition: Edition, payload: u64) -> Decoded
     ensures { (result.class ≡ class_of edition 1 payload) × (vector_bytes result.vector ≡ decoded edition 1 payload) }
 {
@@ -96,21 +102,16 @@ fn decode_control(edition: Edition, payload: u64) -> Decoded
         return bad(Reason::BlockType);
     }
     // eight low power idles, if the edition has them
-    if payload == 0x0c183060c183061e {
-        match edition {
-            Edition::Old => {}
-            Edition::New => {
-                return Decoded {
-                    class: Class::LI,
-                    vector: Vector {
-                        c0: 15,
-                        d0: 0x06060606,
-                        c1: 15,
-                        d1: 0x06060606,
-                    },
-                };
-            }
-        }
+    if payload == 0x0c183060c183061e && edition == Edition::New {
+        return Decoded {
+            class: Class::LI,
+            vector: Vector {
+                c0: 15,
+                c1: 15,
+                d0: 0x06060606,
+                d1: 0x06060606,
+            },
+        };
     }
     let s = shape_of(payload % 16);
     decode_row(edition, r, s, payload)
@@ -120,40 +121,22 @@ fn decode_control(edition: Edition, payload: u64) -> Decoded
 pub fn decode(edition: Edition, header: u64, payload: u64) -> Decoded
     ensures { (result.class ≡ class_of edition header payload) × (vector_bytes result.vector ≡ decoded edition header payload) }
 {
-    let q = quick(header, payload);
-    let class = q.class;
-    let vector = q.vector;
-    if q.there {
-        return Decoded {
-            class: class,
-            vector: vector,
-        };
+    if let Some(decoded) = quick(header, payload) {
+        return decoded;
     }
     if header == 2 {
         return Decoded {
             class: Class::D,
             vector: Vector {
                 c0: 0,
-                d0: (payload % 4294967296) as u32,
                 c1: 0,
+                d0: (payload % 4294967296) as u32,
                 d1: (payload / 4294967296) as u32,
             },
         };
     }
     if header == 1 {
-        // the fields one by one: the other answers then stay in registers
-        let d = decode_control(edition, payload);
-        let class = d.class;
-        let v = d.vector;
-        return Decoded {
-            class: class,
-            vector: Vector {
-                c0: v.c0,
-                d0: v.d0,
-                c1: v.c1,
-                d1: v.d1,
-            },
-        };
+        return decode_control(edition, payload);
     }
     bad(Reason::Header)
 }
@@ -162,10 +145,9 @@ pub fn decode(edition: Edition, header: u64, payload: u64) -> Decoded
 pub fn decode_block(edition: Edition, header: u8, payload: u64, out: &mut [u8; 10]) -> Class
     ensures { (result ≡ class_of edition header payload) × (out.new ≡ decoded edition header payload) }
 {
-    let d = decode(edition, header as u64, payload);
-    let v = d.vector;
-    *out = bytes_of(v);
-    d.class
+    let decoded = decode(edition, u64::from(header), payload);
+    *out = bytes_of(decoded.vector);
+    decoded.class
 }
 
 // The class of a block.

@@ -9,6 +9,8 @@ use borrow.Author.Tests.{le-ltb}
 use Rattle.bits.specs.Bits.{stream_bit}
 use Rattle.bits.proofs.Laws.{length_cut}
 use Rattle.scrambler.specs.Scrambler.{mirror}
+use Rattle.std.specs.Prelude.{Result, Ok, Err}
+use Rattle.refusals.specs.declared.Refused.{Refused}
 use Rattle.refusals.specs.First.{Verdict, accepted, refused, first, by_verdict}
 use Rattle.block.specs.Block.{edition_of, vector_list}
 use Rattle.block.proofs.Vectors.{length_vectors}
@@ -16,13 +18,10 @@ use Rattle.transmit.specs.Send.{sent_line, line_words, blocks_for}
 use Rattle.sending.specs.Answer as Sending
 use Rattle.sending.specs.Answer.{Sends}
 use Rattle.sending.specs.declared.Sending.{Sending}
-use Rattle.sending.specs.declared.Sent.TheVariants as Sent
 use Rattle.receiving.specs.Receive.{received_vectors}
 use Rattle.receiving.specs.Answer as Receiving
 use Rattle.receiving.specs.Answer.{Receives}
 use Rattle.receiving.specs.declared.Summary.{Summary}
-use Rattle.receiving.specs.declared.Received.{Received}
-use Rattle.receiving.specs.declared.Received.TheVariants as Received
 use Rattle.demands.specs.Words.{SendAccepts, Unbroken}
 use Rattle.demands.specs.Demand2.{Returnable, faults, Demand2OfCalls}
 use Rattle.demands.proofs.Accepted.{known, not_long}
@@ -31,7 +30,7 @@ use Rattle.demands.proofs.Demand2.{demand_2}
 -- ---- what `send` left
 
 -- it answers success only where it accepts
-pub done_accepts : (edition : ℕ) (bytes : List ℕ) (start room : ℕ) (s : Sending) → Sending.answer_of (Sent.Done s) ≡ Sending.send_answer edition bytes start room → SendAccepts edition bytes start room
+pub done_accepts : (edition : ℕ) (bytes : List ℕ) (start room : ℕ) (s : Sending) → Sending.answer_of (Ok s) ≡ Sending.send_answer edition bytes start room → SendAccepts edition bytes start room
 unfolding Sending.send_answer
 done_accepts edition bytes start room s e = go (first (Sending.send_checks edition bytes start room)) refl e
   where
@@ -47,7 +46,7 @@ unfolding sent_line
 length_sent edition bytes start = length_cut 8 (33 * (length bytes / 40)) (stream_bit 66 (line_words (mirror start) (blocks_for (edition_of edition) bytes)))
 
 -- then the line stands at the start of the room
-pub line_stands : (edition : ℕ) (bytes : List ℕ) (start : ℕ) (room room' : List ℕ) (s : Sending) → Sends edition bytes start room (Sent.Done s) room'
+pub line_stands : (edition : ℕ) (bytes : List ℕ) (start : ℕ) (room room' : List ℕ) (s : Sending) → Sends edition bytes start room (Ok s) room'
     → take (33 * (length bytes / 40)) room' ≡ sent_line (edition_of edition) bytes start
 unfolding Sending.send_room
 line_stands edition bytes start room room' s sends =
@@ -65,19 +64,19 @@ unfolding first Receiving.receive_checks
 received_too edition line out known short enough = rw (le-ltb 1 edition known, le-ltb 825000 line short, le-ltb out (10 * (8 * line / 66)) enough)
 
 -- an answer with the document's values is the function's answer with these values
-received_is : (r : Received) (s : Summary) → Receiving.answer_of r ≡ Receiving.received s → r ≡ Received.Done s
-received_is (Received.Done x) s e =
+received_is : (r : Result Summary Refused) (s : Summary) → Receiving.answer_of r ≡ Receiving.received s → r ≡ Ok s
+received_is (Ok x) s e =
     let same : x ≡ s = cc in
-    ap Received.Done same
-received_is (Received.Refused why place) s e = absurd (let z : ◌≡◌ {A = ℕ} 0 1 = cc in omega arith)
+    ap Ok same
+received_is (Err x) s e = cc
 
-module _ (edition : ℕ) (bytes : List ℕ) (start : ℕ) (room room' : List ℕ) (s : Sending) (sends : Sends edition bytes start room (Sent.Done s) room')
+module _ (edition : ℕ) (bytes : List ℕ) (start : ℕ) (room room' : List ℕ) (s : Sending) (sends : Sends edition bytes start room (Ok s) room')
     (list : Returnable (edition_of edition) (vector_list bytes)) where
   -- sending accepted
   ok : SendAccepts edition bytes start (length room)
   ok = done_accepts edition bytes start (length room) s sends.0
 
-  module _ (out out' : List ℕ) (r : Received) (receives : Receives edition (take (33 * (length bytes / 40)) room') out r out') (enough : length bytes ≤ length out) where
+  module _ (out out' : List ℕ) (r : Result Summary Refused) (receives : Receives edition (take (33 * (length bytes / 40)) room') out r out') (enough : length bytes ≤ length out) where
     -- so what was received is the line
     receives_line : Receives edition (sent_line (edition_of edition) bytes start) out r out'
     receives_line = subst (λ (line : List ℕ). Receives edition line out r out') (line_stands edition bytes start room room' s sends) receives
@@ -90,7 +89,7 @@ module _ (edition : ℕ) (bytes : List ℕ) (start : ℕ) (room room' : List ℕ
         (omega (arith, size, not_long edition bytes start (length room) ok)) (subst (λ (n : ℕ). 10 * (8 * n / 66) ≤ length out) (sym size) (omega (arith, enough)))
 
     -- the answer
-    answer_is : r ≡ Received.Done (Receiving.summary_of (edition_of edition) (sent_line (edition_of edition) bytes start))
+    answer_is : r ≡ Ok (Receiving.summary_of (edition_of edition) (sent_line (edition_of edition) bytes start))
     unfolding Receiving.receive_answer
     answer_is =
         received_is r (Receiving.summary_of (edition_of edition) (sent_line (edition_of edition) bytes start))

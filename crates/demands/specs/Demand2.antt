@@ -2,18 +2,17 @@
 -- first 64 vectors are control vectors: a fresh receiver over the sent line gives 63 Local Fault vectors and then the list from vector 63
 -- on, unchanged; tested is the number of vectors, slips 0, locked 1 and high 0. (Document 02, 6/13: "Demand 2's condition on the last vector is
 -- dropped"; 9/13: "read with one edition at both ends".)
-use Rattle.std.specs.Prelude.{ℕ, ◌*◌, ◌/◌, ◌≤◌, ◌≡◌, true, length, take, drop, replicate}
+use Rattle.std.specs.Prelude.{ℕ, ◌*◌, ◌/◌, ◌≤◌, ◌≡◌, true, Result, Ok, length, take, drop, replicate}
 use mathlib.Core.List.{List, ◌++◌, flatten}
+use Rattle.refusals.specs.declared.Refused.{Refused}
 use Rattle.block.specs.declared.Edition.{Edition}
 use Rattle.block.specs.Block.{edition_of, local_fault_vector, vector_list}
 use Rattle.transmit.specs.Send.{sent_line}
 use Rattle.sending.specs.Answer.{Sends}
 use Rattle.sending.specs.declared.Sending.{Sending}
-use Rattle.sending.specs.declared.Sent.TheVariants as Sent
 use Rattle.receiving.specs.Receive.{received_vectors, vectors_of}
 use Rattle.receiving.specs.Answer.{summary_of, Receives}
-use Rattle.receiving.specs.declared.Received.{Received}
-use Rattle.receiving.specs.declared.Received.TheVariants as Received
+use Rattle.receiving.specs.declared.Summary.{Summary}
 use Rattle.demands.specs.Words.{SendAccepts, legal, control_vectors, Unbroken}
 
 -- the lists that the demand speaks of: legal, the first 64 control vectors (so there are 64)
@@ -43,11 +42,11 @@ Demand2 =
 abbrev pub Demand2OfCalls : Type 0
 Demand2OfCalls =
     (edition : ℕ) (bytes : List ℕ) (start : ℕ) (room room' : List ℕ) (s : Sending)
-    → Sends edition bytes start room (Sent.Done s) room'
+    → Sends edition bytes start room (Ok s) room'
     → Returnable (edition_of edition) (vector_list bytes)
-    → (out out' : List ℕ) (r : Received)
+    → (out out' : List ℕ) (r : Result Summary Refused)
     → Receives edition (take (33 * (length bytes / 40)) room') out r out'
     → length bytes ≤ length out
-    → (r ≡ Received.Done (summary_of (edition_of edition) (sent_line (edition_of edition) bytes start)))
+    → (r ≡ Ok (summary_of (edition_of edition) (sent_line (edition_of edition) bytes start)))
     × Unbroken (length (vector_list bytes)) (summary_of (edition_of edition) (sent_line (edition_of edition) bytes start))
     × (out' ≡ flatten faults ++ drop 630 bytes ++ drop (length bytes) out)

@@ -1,14 +1,15 @@
 -- Laws of the texts that are written: one piece, one byte or one digit more.
-use Prim.Native.Nat.{ℕ, zero, suc, ◌+◌, ◌-◌, ◌*◌, ◌/◌, ◌%◌, ◌^◌, ◌≤◌, ◌<◌}
-use mathlib.Core.Path.{◌≡◌, refl, sym, ap, ◌∙◌}
+use Prim.Native.Nat.{ℕ, zero, suc, ◌+◌, ◌-◌, ◌*◌, ◌/◌, ◌%◌, ◌^◌, ◌≤◌, ◌<◌, min}
+use mathlib.Core.Path.{◌≡◌, refl, sym, ap, ap₂, ◌∙◌}
 use mathlib.Core.Bool.{Bool}
 use mathlib.Core.List.{List, [], ◌∷◌, ◌++◌, map, flatten, append-nil, append_assoc}
 use native.Mathlib.Omega.{arith}
 use native.Mathlib.Numerals.{add-one}
 use native.Mathlib.Nat.{pow-suc, mul-suc}
 use lib.ListN.{length, get_or, take, drop, length-append, length-drop, take-append-drop}
-use lib.Seq.{take-suc, length-take-le, drop-drop, take_all}
+use lib.Seq.{take-suc, take_at, drop_at, length-take-le, drop-drop, take_all}
 use lib.Dec.{ltb}
+use Rattle.std.proofs.lemmas.List.{nil_from_length}
 use borrow.Author.Tests.{lt-ltb, le-ltb, ltb-true, ltb-false}
 use Rattle.refusals.proofs.Laws.{by_test}
 use Rattle.record_writing.specs.Writing.{record_of}
@@ -101,6 +102,21 @@ pieces_length f size n (suc k) bytes g h =
 pub lines_length : (vectors : List ℕ) → length (hex_lines vectors) ≡ 21 * (length vectors / 10)
 lines_length vectors = pieces_length hex_line 10 21 (length vectors / 10) vectors hex_line_length (omega arith)
 
+-- The line of the first vector, and then those of the others.
+pub lines_part : (vectors vector rest : List ℕ) → vectors ≡ vector ++ rest → length vector ≡ 10 → hex_lines vectors ≡ hex_line vector ++ hex_lines rest
+unfolding pieces flatten
+lines_part vectors vector rest e l =
+    let k : length vectors / 10 ≡ suc (length rest / 10) = omega (arith, ap length e, length-append vector rest) in
+    let p : take 10 vectors ≡ vector = ap (take 10) e ∙ take_at vector rest 10 l in
+    let r : drop 10 vectors ≡ rest = ap (drop 10) e ∙ drop_at vector rest 10 l in
+    ap (λ (n : ℕ). flatten (map hex_line (pieces 10 n vectors))) k
+    ∙ ap₂ (λ (x y : List ℕ). hex_line x ++ flatten (map hex_line (pieces 10 (length rest / 10) y))) p r
+
+-- No whole vector has no line.
+pub lines_none : (vectors : List ℕ) → length vectors < 10 → hex_lines vectors ≡ []
+unfolding pieces flatten
+lines_none vectors h = let k : length vectors / 10 ≡ 0 = omega arith in rw k
+
 -- ---- line records
 
 -- A record has four bytes more than its body.
@@ -136,6 +152,24 @@ records_total size (suc k) bytes h =
     let l = records_total size k (drop size bytes) (simp length-drop (omega arith)) in
     let s = ap length (take-append-drop size bytes) in
     omega (arith, length-append (record_of 2 (take size bytes)) (flatten (map (record_of 2) (pieces size k (drop size bytes)))), length-append (take size bytes) (drop size bytes))
+
+-- The record of the first part of a line, and then those of the rest.
+pub records_part : (line part rest : List ℕ) → line ≡ part ++ rest → length part ≡ min 4092 (length line) → 0 < length line
+    → line_records 4092 line ≡ record_of 2 part ++ line_records 4092 rest
+records_part line part rest e l h =
+    let n = ap length e ∙ length-append part rest in
+    by_test (ltb 4092 (length line))
+    (λ t.
+    let k : 4092 < length line = ltb-true 4092 (length line) t in
+    let p : take 4092 line ≡ part = ap (take 4092) e ∙ take_at part rest 4092 (omega arith) in
+    let r : drop 4092 line ≡ rest = ap (drop 4092) e ∙ drop_at part rest 4092 (omega arith) in
+    records_more line k ∙ ap₂ (λ (x y : List ℕ). record_of 2 x ++ line_records 4092 y) p r)
+    (λ t.
+    let k : length line ≤ 4092 = ltb-false 4092 (length line) t in
+    let z : rest ≡ [] = nil_from_length rest (omega arith) in
+    let p : line ≡ part = e ∙ ap (λ (x : List ℕ). part ++ x) z ∙ append-nil part in
+    records_one line h k ∙ ap (record_of 2) p ∙ sym (append-nil (record_of 2 part))
+    ∙ ap (λ (x : List ℕ). record_of 2 part ++ x) (sym (records_none rest (omega arith))))
 
 -- How many bytes the records of a line have.
 pub records_length : (line : List ℕ) → length (line_records 4092 line) ≡ length line + 4 * ((length line + 4092 - 1) / 4092)

@@ -1,19 +1,18 @@
 -- What the loops of this crate keep, and what one turn does.
 use Prim.Native.Nat.{ℕ, ◌+◌, ◌-◌, ◌*◌, ◌/◌, ◌%◌, ◌^◌, ◌≤◌, ◌<◌}
 use mathlib.Core.Path.{◌≡◌, refl, sym, ap, subst, ◌∙◌}
-use mathlib.Core.Bool.{Bool}
-use mathlib.Core.List.{List, [], ◌∷◌, ◌++◌, map, flatten}
+use mathlib.Core.Bool.{Bool, true, false}
+use mathlib.Core.List.{List, [], ◌∷◌, ◌++◌, append-nil, append_assoc}
 use native.Mathlib.Omega.{arith}
-use native.Mathlib.Numerals.{add-one}
-use native.Mathlib.Nat.{add-sub_cancel_left}
-use lib.ListN.{length, get_or, take, drop, set, length-append, length-drop, length-set}
+use lib.ListN.{length, get_or, take, drop, set, length-append, length-set}
 use lib.Seq.{length-take-le, take_all}
+use mir.Val.{bool_byte}
 use borrow.Rule.Slice.PartMut.{put_mid, mid_of}
 use Rattle.record_writing.specs.Writing.{record_of}
 use Rattle.putting.specs.Overlaid.{PutsText}
 use Rattle.putting.proofs.Laws.{overlaid_part, puts_on, puts_length, puts_none, puts_one, puts_two}
-use Rattle.display.specs.Display.{hex_digit, hex_digits, hex_line, hex_lines, pieces, decimal, number_line, flag, summary_lines, refused_line, line_records}
-use Rattle.display.proofs.Laws.{decimal_one, decimal_more, decimal_same, hex_length, hex_line_length, hex_more, piece_more, record_length, records_none, records_one, records_more}
+use Rattle.display.specs.Display.{hex_digit, hex_digits, decimal, number_line, flag, summary_lines, refused_line}
+use Rattle.display.proofs.Laws.{decimal_one, decimal_more, decimal_same, hex_length, hex_more, record_length}
 
 -- ---- the digits of a vector
 
@@ -49,43 +48,43 @@ digits_turn v out₀ out at e j h l r t p q d =
 pub digits_done : (v out₀ out : List ℕ) (at e j : ℕ) → length v ≤ j → Digits v out₀ at out e j → PutsText at (hex_digits v) out₀ e out
 digits_done v out₀ out at e j h d = subst (λ (x : List ℕ). PutsText at (hex_digits x) out₀ e out) (take_all j v h) d.written
 
--- ---- the lines of the vectors
+-- ---- pieces one after the other
 
--- The lines of the first i vectors are written.
-pub record Lines (vectors out₀ : List ℕ) (at : ℕ) (out : List ℕ) (e i : ℕ) : Type 0 where
-  pub within : i ≤ length vectors / 10
-  pub written : PutsText at (flatten (map hex_line (pieces 10 i vectors))) out₀ e out
+-- A part of a text is written, and this is what is left of it.
+pub record Begun (text : List ℕ) (at : ℕ) (out₀ out : List ℕ) (e : ℕ) (left : List ℕ) : Type 0 where
+  pub first : List ℕ
+  pub written : PutsText at first out₀ e out
   pub same : length out ≡ length out₀
-  pub place : e ≡ at + 21 * i
+  pub both : first ++ left ≡ text
 
--- None at first.
-pub lines_first : (vectors out : List ℕ) (at : ℕ) → Lines vectors out at out at 0
-unfolding pieces flatten
-lines_first vectors out at = record { within = omega arith; written = puts_none at out; same = refl; place = omega arith }
+-- Nothing is written at first.
+pub begun : (text left out : List ℕ) (at : ℕ) → left ≡ text → Begun text at out out at left
+begun text left out at e = record { first = []; written = puts_none at out; same = refl; both = e }
 
--- One line more.
-pub lines_turn : (vectors out₀ out exit : List ℕ) (at e i r : ℕ) → at + 21 * (length vectors / 10) ≤ length out₀ → i < length vectors / 10
-    → PutsText e (hex_line (take (10 * i + 10 - 10 * i) (drop (10 * i) vectors))) out r exit
-    → Lines vectors out₀ at out e i → Lines vectors out₀ at exit r (i + 1)
-lines_turn vectors out₀ out exit at e i r h t w d =
-    let m = add-sub_cancel_left (10 * i) 10 in
-    let line = hex_line (take 10 (drop (10 * i) vectors)) in
-    let w₁ : PutsText e line out r exit = subst (λ (k : ℕ). PutsText e (hex_line (take k (drop (10 * i) vectors))) out r exit) m w in
-    let n : length line ≡ 21 = hex_line_length (take 10 (drop (10 * i) vectors)) (length-take-le 10 (drop (10 * i) vectors) (simp length-drop (omega arith))) in
-    let more : flatten (map hex_line (pieces 10 (i + 1) vectors)) ≡ flatten (map hex_line (pieces 10 i vectors)) ++ line = ap (λ (k : ℕ). flatten (map hex_line (pieces 10 k vectors))) (add-one i) ∙ piece_more hex_line 10 i vectors in
-    let f : length (flatten (map hex_line (pieces 10 i vectors))) ≡ 21 * i = omega (arith, d.written.ends, d.place) in
-    record {
-      within = omega arith;
-      written = subst (λ (x : List ℕ). PutsText at x out₀ r exit) (sym more) (puts_on at e r (flatten (map hex_line (pieces 10 i vectors))) line out₀ out exit d.written w₁ (omega arith));
-      same = puts_length e r line out exit w₁ (omega (arith, d.same, d.place)) ∙ d.same;
-      place = omega (arith, w₁.ends, d.place);
-    }
+module _ (text out₀ out : List ℕ) (at e : ℕ) (left piece rest : List ℕ) (fits : at + length text ≤ length out₀) (next : left ≡ piece ++ rest)
+    (b : Begun text at out₀ out e left) where
+  whole : b.first ++ piece ++ rest ≡ text
+  whole = append_assoc b.first piece rest ∙ ap (λ (l : List ℕ). b.first ++ l) (sym next) ∙ b.both
 
--- All at the end.
-pub lines_done : (vectors out₀ out : List ℕ) (at e i : ℕ) → length vectors / 10 ≤ i → Lines vectors out₀ at out e i → PutsText at (hex_lines vectors) out₀ e out
-lines_done vectors out₀ out at e i h d =
-    let z : i ≡ length vectors / 10 = omega (arith, d.within) in
-    subst (λ (k : ℕ). PutsText at (flatten (map hex_line (pieces 10 k vectors))) out₀ e out) z d.written
+  -- One piece more fits.
+  pub piece_fits : e + length piece ≤ length out
+  piece_fits = omega (arith, ap length whole, length-append (b.first ++ piece) rest, length-append b.first piece, b.written.ends, b.same)
+
+  -- It is written behind the others.
+  pub goes_on : (exit : List ℕ) (r : ℕ) → PutsText e piece out r exit → Begun text at out₀ exit r rest
+  goes_on exit r w =
+      let f = piece_fits in
+      record {
+        first = b.first ++ piece;
+        written = puts_on at e r b.first piece out₀ out exit b.written w (omega (arith, b.written.ends, b.same));
+        same = puts_length e r piece out exit w f ∙ b.same;
+        both = whole;
+      }
+
+-- All is written.
+pub all_written : (text out₀ out : List ℕ) (at e : ℕ) (left : List ℕ) → left ≡ [] → Begun text at out₀ out e left → PutsText at text out₀ e out
+all_written text out₀ out at e left n b =
+    subst (λ (t : List ℕ). PutsText at t out₀ e out) (sym (append-nil b.first) ∙ ap (λ (l : List ℕ). b.first ++ l) (sym n) ∙ b.both) b.written
 
 -- ---- the digits of a number
 
@@ -120,6 +119,11 @@ digit_more n d at e out mid f h q r w =
     (puts_on at e (e + 1) (decimal (n / 10)) (d ∷ []) out mid (set mid e d) w (puts_one e d mid (omega (arith, w.ends))) (omega arith))
 
 -- ---- the receiver's four lines
+
+-- 1 for true.
+pub bit_is : (b : Bool) → bool_byte b ≡ flag b
+bit_is true = refl
+bit_is false = refl
 
 -- Four lines after one another are the summary.
 pub summary_written : (tested slips m n : ℕ) (locked high : Bool) (at p q r e : ℕ) (out out₁ out₂ out₃ exit : List ℕ)
@@ -165,35 +169,3 @@ record_written at body out l h e =
       ends = omega (arith, n);
       room = overlaid_part at (record_of 2 body) out l h (e ∙ ap (λ (k : ℕ). record_of 2 body ++ drop k (mid_of at (length out - at) out)) (sym n));
     }
-
--- An empty line: nothing is written.
-pub records_end : (at : ℕ) (line out : List ℕ) → length line ≡ 0 → PutsText at (line_records 4092 line) out at out
-records_end at line out e = subst (λ (t : List ℕ). PutsText at t out at out) (sym (records_none line e)) (puts_none at out)
-
--- A line that one body holds: its record is written.
-pub records_last : (at r : ℕ) (line out exit : List ℕ) → (length line ≡ 0 → ⊥) → length line ≤ 4092 → PutsText at (record_of 2 line) out r exit → PutsText at (line_records 4092 line) out r exit
-records_last at r line out exit p h w = subst (λ (t : List ℕ). PutsText at t out r exit) (sym (records_one line (omega arith) h)) w
-
--- A longer line: a whole record, and then the records of the rest.
-pub records_on : (at e r : ℕ) (line rest out mid exit : List ℕ) → 4092 < length line → rest ≡ drop 4092 line → at + length (line_records 4092 line) ≤ length out
-    → PutsText at (record_of 2 (take 4092 line)) out e mid → PutsText e (line_records 4092 rest) mid r exit → PutsText at (line_records 4092 line) out r exit
-records_on at e r line rest out mid exit h d f w v =
-    let m : line_records 4092 line ≡ record_of 2 (take 4092 line) ++ line_records 4092 rest = records_more line h ∙ ap (λ (l : List ℕ). record_of 2 (take 4092 line) ++ line_records 4092 l) (sym d) in
-    let l = ap length m ∙ length-append (record_of 2 (take 4092 line)) (line_records 4092 rest) in
-    subst (λ (t : List ℕ). PutsText at t out r exit) (sym m) (puts_on at e r (record_of 2 (take 4092 line)) (line_records 4092 rest) out mid exit w v (omega arith))
-
--- The rest fits, after a whole record.
-pub records_fit : (at : ℕ) (line out : List ℕ) → 4092 < length line → at + length (line_records 4092 line) ≤ length out → at + 4096 + length (line_records 4092 (drop 4092 line)) ≤ length out
-records_fit at line out h f =
-    let m = records_more line h in
-    let l = ap length m ∙ length-append (record_of 2 (take 4092 line)) (line_records 4092 (drop 4092 line)) in
-    let t = length-take-le 4092 line (omega arith) in
-    omega (arith, record_length (take 4092 line))
-
--- A last record fits.
-pub records_fit_last : (at : ℕ) (line out : List ℕ) → (length line ≡ 0 → ⊥) → length line ≤ 4092 → at + length (line_records 4092 line) ≤ length out → at + length line + 4 ≤ length out
-records_fit_last at line out p h f = let l = ap length (records_one line (omega arith) h) ∙ record_length line in omega arith
-
--- The part of a line after its first record.
-pub rest_is : (line : List ℕ) → take (length line - 4092) (drop 4092 line) ≡ drop 4092 line
-rest_is line = take_all (length line - 4092) (drop 4092 line) (simp length-drop (omega arith))

@@ -5,16 +5,18 @@ ghost use Rattle.std.specs.Prelude.{◌≡◌, ◌++◌, ◌+◌, ◌*◌, ◌/�
 ghost use Rattle.refusals.specs.Number.{number_of};
 ghost use Rattle.record_writing.specs.Writing.{record_of};
 ghost use Rattle.putting.specs.Overlaid.{PutsText};
-ghost use Rattle.display.specs.Display.{ascii, hex_digit, hex_digits, hex_line, hex_lines, decimal, flag, summary_lines, refused_line, input_failed_line, line_records};
+ghost use Rattle.display.specs.Display.{ascii, hex_digit, hex_digits, hex_line, hex_lines, decimal, summary_lines, refused_line, input_failed_line, line_records};
 
+use records::RecordKind;
 use refusals::Refusal;
 
 // A hexadecimal digit, lower case.
+#[tactic(auto, using(std::proofs::lemmas::Bool::Decides::nat_tests))]
 fn digit(n: u8) -> u8
     requires { n < 16 }
     ensures { result ≡ hex_digit n }
 {
-    if n < 10 { 48 + n } else { 87 + n }
+    if n < 10 { b'0' + n } else { b'a' + (n - 10) }
 }
 
 // Two digits for each byte.
@@ -23,13 +25,10 @@ fn hex_digits(v: &[u8], out: &mut [u8], at: usize) -> usize
     ensures { PutsText at (hex_digits v.now) out.old result out.new }
 {
     let mut e = at;
-    let mut j = 0;
-    while j < v.len() {
-        let b = v[j];
-        out[e] = digit(b / 16);
-        out[e + 1] = digit(b % 16);
+    for b in v {
+        out[e] = digit(*b / 16);
+        out[e + 1] = digit(*b % 16);
         e += 2;
-        j += 1;
     }
     e
 }
@@ -48,17 +47,14 @@ pub fn hex_lines(vectors: &[u8], out: &mut [u8], at: usize) -> usize
     requires { at + 21 * (length vectors.now / 10) ≤ length out.old }
     ensures { PutsText at (hex_lines vectors.now) out.old result out.new }
 {
-    let k = vectors.len() / 10;
     let mut e = at;
-    let mut i = 0;
-    while i < k {
-        e = hex_line(&vectors[10 * i..10 * i + 10], out, e);
-        i += 1;
+    for vector in vectors.chunks_exact(10) {
+        e = hex_line(vector, out, e);
     }
     e
 }
 
-// The decimal digits of a number.
+// The decimal digits of a number. (By hand: of `write!` into a slice it is not known how much of the slice is left, and the proof did not close.)
 fn decimal_digits(n: u64, out: &mut [u8], at: usize) -> usize
     requires { at + length (decimal n) ≤ length out.old }
     ensures { PutsText at (decimal n) out.old result out.new }
@@ -83,13 +79,6 @@ fn number_line(name: &[u8], n: u64, out: &mut [u8], at: usize) -> usize
     putting::text(b"\n", out, e)
 }
 
-// 1 for true.
-fn bit(b: bool) -> u64
-    ensures { result ≡ flag b }
-{
-    if b { 1 } else { 0 }
-}
-
 // The receiver's four lines.
 pub fn summary_lines(
     tested: u64,
@@ -104,8 +93,8 @@ pub fn summary_lines(
 {
     let a = number_line(b"tested ", tested, out, at);
     let b = number_line(b"slips ", slips, out, a);
-    let c = number_line(b"locked ", bit(locked), out, b);
-    number_line(b"high ", bit(high), out, c)
+    let c = number_line(b"locked ", u64::from(locked), out, b);
+    number_line(b"high ", u64::from(high), out, c)
 }
 
 // The line of a refusal.
@@ -113,7 +102,7 @@ pub fn refused_line(why: Refusal, out: &mut [u8], at: usize) -> usize
     requires { at + 29 ≤ length out.old }
     ensures { PutsText at (refused_line (number_of why)) out.old result out.new }
 {
-    number_line(b"refused ", refusals::number(why), out, at)
+    number_line(b"refused ", why.number(), out, at)
 }
 
 // The line of a read that failed.
@@ -129,22 +118,18 @@ fn line_record(body: &[u8], out: &mut [u8], at: usize) -> usize
     requires { (length body.now < 65536) × (at + length body.now + 4 ≤ length out.old) }
     ensures { PutsText at (record_of 2 body.now) out.old result out.new }
 {
-    record_writing::put(2, body, &mut out[at..]);
+    record_writing::put(RecordKind::Line.number(), body, &mut out[at..]);
     at + body.len() + 4
 }
 
 // Line records of 4,092 bytes, the last with what is left.
-#[tactic(auto, using(crate::proofs::Laws::records_one))]
 pub fn line_records(line: &[u8], out: &mut [u8], at: usize) -> usize
     requires { at + length (line_records 4092 line.now) ≤ length out.old }
     ensures { PutsText at (line_records 4092 line.now) out.old result out.new }
 {
-    if line.len() == 0 {
-        return at;
+    let mut e = at;
+    for part in line.chunks(4092) {
+        e = line_record(part, out, e);
     }
-    if line.len() <= 4092 {
-        return line_record(line, out, at);
-    }
-    let e = line_record(&line[..4092], out, at);
-    line_records(&line[4092..], out, e)
+    e
 }

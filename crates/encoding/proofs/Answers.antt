@@ -15,11 +15,11 @@ use Rattle.control_bytes.specs.Control.{high_from, high_control}
 use Rattle.block.proofs.Sending.{ten, from, listed, carrier_kind_lem}
 use Rattle.control_bytes.proofs.High.{high_here, high_next}
 use Rattle.block.specs.declared.Coded.{Coded}
-use Rattle.encoding.specs.declared.Encoded.{Encoded}
+use Rattle.std.specs.Prelude.{Option, Ok}
 use Rattle.block.specs.Coded.{coded_of}
 use Rattle.encoding.specs.Answer.{answer_of}
 use Rattle.fields.specs.Parts.{spread}
-use Rattle.encoding.specs.Parts.{lanes_at, encoded_of}
+use Rattle.encoding.specs.Parts.{lanes_at, carried_by}
 
 -- two words by their eight lanes
 pub spread_words : (c0 d0 c1 d1 : ℕ) → d0 < 2 ^ 32 → spread c0 c1 (d0 + d1 * 4294967296) ≡ two_words c0 d0 c1 d1
@@ -70,10 +70,10 @@ module _ (ed : Edition) where
     both_low h k = sym (checked v 10 l (two_words_lem v l ∙ high_next 1 0 v h ∙ high_next 0 5 v k))
 
     -- a block that carries a vector is not of kind E, so kind E says that there is none
-    given : (w : List ℕ) → answer_of (encoded_of (coded_of (carrier ed w))) ≡ carried (carrier ed w)
+    given : (w : List ℕ) → answer_of (Ok (carried_by (coded_of (carrier ed w)))) ≡ carried (carrier ed w)
     given w = go (carrier ed w) refl
       where
-        go : (c : Carrier) → carrier ed w ≡ c → answer_of (encoded_of (coded_of c)) ≡ carried c
+        go : (c : Carrier) → carrier ed w ≡ c → answer_of (Ok (carried_by (coded_of c))) ≡ carried c
         go none e = refl
         go (block D h x) e = refl
         go (block C h x) e = refl
@@ -82,8 +82,8 @@ module _ (ed : Edition) where
         go (block LI h x) e = refl
         go (block E h x) e = absurd (carrier_kind_lem ed w E h x e refl)
 
-    pub good_answer : (z : Encoded) (c : Coded) (d0 d1 : ℕ) → ((n : ℕ) → get_or v n 0 < 256) → get_or v 0 0 ≤ 15 → get_or v 5 0 ≤ 15
-        → d0 ≡ lanes_at v 1 → d1 ≡ lanes_at v 6 → c ≡ coded_of (carrier ed (two_words (get_or v 0 0) d0 (get_or v 5 0) d1)) → z ≡ encoded_of c → answer_of z ≡ encode_answer ed v
+    pub good_answer : (z : Option Coded) (c : Coded) (d0 d1 : ℕ) → ((n : ℕ) → get_or v n 0 < 256) → get_or v 0 0 ≤ 15 → get_or v 5 0 ≤ 15
+        → d0 ≡ lanes_at v 1 → d1 ≡ lanes_at v 6 → c ≡ coded_of (carrier ed (two_words (get_or v 0 0) d0 (get_or v 5 0) d1)) → z ≡ carried_by c → answer_of (Ok z) ≡ encode_answer ed v
     good_answer z c d0 d1 b h k p q r s =
-        ap answer_of (s ∙ ap encoded_of (r ∙ ap coded_of (ap (carrier ed) (ap₂ (λ (x y : ℕ). two_words (get_or v 0 0) x (get_or v 5 0) y) p q ∙ read_words v l b))))
+        ap (λ (z : Option Coded). answer_of (Ok z)) (s ∙ ap carried_by (r ∙ ap coded_of (ap (carrier ed) (ap₂ (λ (x y : ℕ). two_words (get_or v 0 0) x (get_or v 5 0) y) p q ∙ read_words v l b))))
         ∙ given v ∙ both_low h k

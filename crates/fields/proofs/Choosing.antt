@@ -19,7 +19,7 @@ use Rattle.bits.proofs.Tests.{both_left, both_right, or_right, all, every, every
 use Rattle.block.proofs.Formats.{sound, all_sound, flags_lt}
 use Rattle.block.proofs.Sending.{carried_flags}
 use Rattle.fields.specs.Parts.{flags_of, seek, first_by, next_by}
-use Rattle.fields.specs.declared.Sum.{Sum}
+use Rattle.std.specs.Prelude.{Option, Some, None}
 use Rattle.block.specs.Coded.{coded_of}
 use Rattle.fields.specs.Parts.{sum_by}
 
@@ -41,10 +41,6 @@ every_drop q (suc n) (f ∷ fs) t = every_drop q n fs (both_right (q f) (every q
 
 same_flags : (v : List ℕ) (f : Format) → get_or v 0 0 < 16 → flags_of f ≡ get_or v 0 0 + 16 * get_or v 5 0 → SameFlags v f
 same_flags v f h e = (omega (arith, flags_lt f.fields 0), omega (arith, flags_lt f.fields 0))
-
--- the next row is a later one
-pub next_gt : (r : ℕ) → r < next_by r
-next_gt r = omega arith
 
 abbrev one_header : Format → Bool
 one_header f = eqb (flags_of f) 0 || eqb f.header 1
@@ -128,19 +124,16 @@ module _ (ed : Edition) where
   -- ---- what the loop answers
 
   -- a row that carries the vector, which has a control character
-  pub tried : (v : List ℕ) (r : ℕ) (k : Kind) (s : Sum) → r < 16 → Trying v r → 0 < get_or v 0 0 + 16 * get_or v 5 0 → k ≡ kind_for (row r) v → s ≡ sum_by ed v (row r) → s.fits ≡ true
-      → record { kind = k; header = 1; payload = s.payload } ≡ coded_of (carrier ed v)
-  tried v r k s hr w some q e f =
-      by_test (carries ed v (row r).fields) carried (λ c. absurd (not_carried c))
+  pub tried : (v : List ℕ) (r : ℕ) (k : Kind) (payload : ℕ) → r < 16 → Trying v r → 0 < get_or v 0 0 + 16 * get_or v 5 0 → k ≡ kind_for (row r) v → Some payload ≡ sum_by ed v (row r)
+      → record { kind = k; header = 1; payload = payload } ≡ coded_of (carrier ed v)
+  tried v r k payload hr w some q e =
+      by_test (carries ed v (row r).fields) carried (λ c. absurd (not_carried (sum false c)))
     where
-      sum : (b : Bool) → carries ed v (row r).fields ≡ b → s ≡ cond b (record { fits = true; payload = payload_for ed v (row r) }) (record { fits = false; payload = 0 })
-      sum b c = e ∙ ap (λ (b : Bool). cond {A = Sum} b (record { fits = true; payload = payload_for ed v (row r) }) (record { fits = false; payload = 0 })) c
+      sum : (b : Bool) → carries ed v (row r).fields ≡ b → Some payload ≡ cond b (Some (payload_for ed v (row r))) None
+      sum b c = e ∙ ap (λ (b : Bool). cond b (Some (payload_for ed v (row r))) None) c
 
-      not_carried : carries ed v (row r).fields ≡ false → ⊥
-      not_carried c = never (sym f ∙ ap (λ (z : Sum). z.fits) (sum false c))
-        where
-          never : true ≡ false → ⊥
-          never n = let z : ◌≡◌ {A = ℕ} 0 1 = cc in omega arith
+      not_carried : ◌≡◌ {A = Option ℕ} (Some payload) None → ⊥
+      not_carried e = cc
 
       header : (row r).header ≡ 1
       header =
@@ -148,24 +141,27 @@ module _ (ed : Edition) where
           eqb→eq (row r).header 1
           (or_right (eqb (flags_of (row r)) 0) (eqb (row r).header 1) (every_at one_header formats no_format r tt hr) (λ t. let y = eqb→eq (flags_of (row r)) 0 t in absurd (omega arith)))
 
-      carried : carries ed v (row r).fields ≡ true → record { kind = k; header = 1; payload = s.payload } ≡ coded_of (carrier ed v)
+      carried : carries ed v (row r).fields ≡ true → record { kind = k; header = 1; payload = payload } ≡ coded_of (carrier ed v)
       carried c =
           sym (ap coded_of
           (w.still
           ∙ ap (λ (l : List Format). carrier_by ed l v) (drop-cons formats r no_format hr)
           ∙ ap (λ (b : Bool). cond b (block (kind_for (row r) v) (row r).header (payload_for ed v (row r))) (carrier_by ed (drop (suc r) formats) v)) c)
-          ∙ (λ i. record { kind = sym q i; header = header i; payload = sym (ap (λ (z : Sum). z.payload) (sum true c)) i }))
+          ∙ (λ i. record { kind = sym q i; header = header i; payload = sym (same (sum true c)) i }))
+        where
+          same : ◌≡◌ {A = Option ℕ} (Some payload) (Some (payload_for ed v (row r))) → payload ≡ payload_for ed v (row r)
+          same e = cc
 
   -- no row
   pub none_tried : (v : List ℕ) (r : ℕ) → 16 ≤ r → Trying v r → record { kind = E; header = 1; payload = error_payload } ≡ coded_of (carrier ed v)
   none_tried v r h w = sym (ap coded_of (w.still ∙ ap (λ (l : List Format). carrier_by ed l v) (drop_of_length-le formats h)))
 
   -- a row that does not
-  pub not_tried : (v : List ℕ) (r : ℕ) (s : Sum) → s ≡ sum_by ed v (row r) → s.fits ≡ false → carries ed v (row r).fields ≡ false
-  not_tried v r s e f =
+  pub not_tried : (v : List ℕ) (r : ℕ) → None ≡ sum_by ed v (row r) → carries ed v (row r).fields ≡ false
+  not_tried v r e =
       by_test (carries ed v (row r).fields)
-      (λ c. absurd (never (sym (ap (λ (z : Sum). z.fits) (e ∙ ap (λ (b : Bool). cond {A = Sum} b (record { fits = true; payload = payload_for ed v (row r) }) (record { fits = false; payload = 0 })) c)) ∙ f)))
+      (λ c. absurd (never (e ∙ ap (λ (b : Bool). cond b (Some (payload_for ed v (row r))) None) c)))
       (λ c. c)
     where
-      never : true ≡ false → ⊥
-      never n = let z : ◌≡◌ {A = ℕ} 0 1 = cc in omega arith
+      never : ◌≡◌ {A = Option ℕ} None (Some (payload_for ed v (row r))) → ⊥
+      never e = cc

@@ -1,20 +1,18 @@
 -- The code of one field of a row, and its place in the payload, as the numbers of the rows have them.
 use mathlib.Core.Path.{◌≡◌, refl, ◌∙◌, ap, ap₂, subst, subst₂, sym}
-use mathlib.Core.Bool.{Bool, true, false, cond, ◌||◌}
+use mathlib.Core.Bool.{Bool, true, false, cond}
 use mathlib.Core.List.{List, [], ◌∷◌}
-use Prim.Native.Nat.{ℕ, zero, suc, ◌+◌, ◌*◌, ◌/◌, ◌%◌, ◌^◌, ◌<◌, ◌≤◌}
+use Prim.Native.Nat.{ℕ, ◌+◌, ◌*◌, ◌/◌, ◌%◌, ◌^◌, ◌<◌, ◌≤◌}
 use native.Mathlib.Nat.{mod-eq_of_lt, mul_comm, mul-zero, zero-mul}
 use native.Mathlib.Omega.{arith}
 use lib.Dec.{T, eqb, ltb, leb, ltb→lt, leb→le, eqb→eq}
 use lib.Pow.{shl_exact}
 use borrow.Author.Tests.{ltb-true, ltb-false, eq-eqb}
 use Rattle.block.specs.declared.Edition.{Edition}
-use Rattle.block.specs.declared.Edition.TheVariants.{Old, New}
 use Rattle.block.specs.Block.{Slot, Control, Calm, Data, Set, Start, Terminate, flag_at, flag_of, lane_of, control_bit, code_of, sent_code}
 use Rattle.block.specs.Rows.{width, row, SameFlags}
-use Rattle.bits.proofs.Tests.{all, holds, each, at, eight, or_right}
+use Rattle.bits.proofs.Tests.{all, holds, each, at, eight}
 use Rattle.block.proofs.Reading.{flags_same}
-use Rattle.fields.proofs.Told.{NoneOf, has, otherwise}
 use Rattle.fields.specs.Parts.{spread, field_in, place_of_field, slot_of, fields_by, places_by, field_code}
 use Rattle.block.specs.Rows.{slot_number}
 
@@ -42,16 +40,8 @@ slot_is Set = refl
 slot_is Start = refl
 slot_is Terminate = refl
 
-pub last_slot : (n : ℕ) → NoneOf (4 ∷ 3 ∷ 2 ∷ 1 ∷ 0 ∷ []) n → slot_of n ≡ Terminate
-last_slot zero m = absurd (m.0.0.0.0.1 refl)
-last_slot (suc zero) m = absurd (m.0.0.0.1 refl)
-last_slot (suc (suc zero)) m = absurd (m.0.0.1 refl)
-last_slot (suc (suc (suc zero))) m = absurd (m.0.1 refl)
-last_slot (suc (suc (suc (suc zero)))) m = absurd (m.1 refl)
-last_slot (suc (suc (suc (suc (suc n))))) m = refl
-
 -- an octet among the eight
-pub lane_of_lem : (c0 c1 lanes p : ℕ) → p < 8 → lane_of (spread c0 c1 lanes) p ≡ lanes / 2 ^ (8 * p) % 2 ^ 8
+lane_of_lem : (c0 c1 lanes p : ℕ) → p < 8 → lane_of (spread c0 c1 lanes) p ≡ lanes / 2 ^ (8 * p) % 2 ^ 8
 lane_of_lem c0 c1 lanes =
     eight (λ (p : ℕ). lane_of (spread c0 c1 lanes) p ≡ lanes / 2 ^ (8 * p) % 2 ^ 8)
     (omega arith) (omega arith) (omega arith) (omega arith) (omega arith) (omega arith) (omega arith) (omega arith)
@@ -118,30 +108,3 @@ module _ (r i : ℕ) (hr : r < 16) (hi : i < 8) where
           ap (λ (m : ℕ). m * 2 ^ (place_of_field r i % 64) % 2 ^ 64) z
           ∙ ap (λ (m : ℕ). m % 2 ^ 64) (zero-mul (2 ^ (place_of_field r i % 64)))
           ∙ sym (ap (λ (m : ℕ). 2 ^ place_of_field r i * m) z ∙ mul-zero (2 ^ place_of_field r i))
-
--- ---- the codes of the octets
-
--- a control character of either edition
-pub control_code : (ed : Edition) (z : ℕ) (ks : List ℕ) → T (each (λ o. has ks o || eqb (code_of Old Control o) z) 0 256) → T (each (λ o. has ks o || eqb (code_of New Control o) z) 0 256)
-    → (o : ℕ) → o < 256 → NoneOf ks o → z ≡ code_of ed Control o
-control_code Old z ks t u o h n = otherwise ks (code_of Old Control) z 256 t o h n
-control_code New z ks t u o h n = otherwise ks (code_of New Control) z 256 u o h n
-
--- at one octet that both editions have
-pub control_at : (ed : Edition) (o k z : ℕ) → o ≡ k → z ≡ code_of Old Control k → z ≡ code_of New Control k → z ≡ code_of ed Control o
-control_at Old o k z e p q = p ∙ ap (code_of Old Control) (sym e)
-control_at New o k z e p q = q ∙ ap (code_of New Control) (sym e)
-
--- type 1e has all but fe
-calm_all : (ed : Edition) → T (each (λ o. eqb o 0xfe || eqb (code_of ed Control o) (code_of ed Calm o)) 0 256)
-calm_all Old = tt
-calm_all New = tt
-
-pub calm_code_lem : (ed : Edition) (o : ℕ) → o < 256 → (o ≡ 0xfe → ⊥) → code_of ed Control o ≡ code_of ed Calm o
-calm_code_lem ed o h n =
-    eqb→eq (code_of ed Control o) (code_of ed Calm o)
-    (or_right (eqb o 0xfe) (eqb (code_of ed Control o) (code_of ed Calm o)) (at (λ o. eqb o 0xfe || eqb (code_of ed Control o) (code_of ed Calm o)) 256 (calm_all ed) o h) (λ t. n (eqb→eq o 0xfe t)))
-
-pub calm_error : (ed : Edition) → 256 ≡ code_of ed Calm 0xfe
-calm_error Old = refl
-calm_error New = refl

@@ -10,7 +10,8 @@ use lib.Dec.{T, leb, ltb}
 use lib.ListN.{length, get_or, take}
 use lib.Seq.{take-suc, take_all}
 use lib.Pow.{pow_mono, pow-add}
-use borrow.Author.Tests.{lt-ltb, le-ltb}
+use borrow.Author.Tests.{lt-ltb, le-ltb, ltb-true, ltb-false}
+use Rattle.std.specs.Prelude.{Some, None}
 use Rattle.block.specs.declared.Edition.{Edition}
 use Rattle.block.specs.Block.{Field, d, sent_code, packed, carries, payload_for}
 use Rattle.block.specs.Rows.{width, bits_of, row}
@@ -18,8 +19,7 @@ use Rattle.bits.proofs.Tests.{is_true}
 use Rattle.block.proofs.Formats.{roomy, sound_length, sound_roomy, sound_bits, sound_type, row_sound}
 use Rattle.block.proofs.Sending.{field_lt, packed_lt, above_lt}
 use Rattle.fields.specs.Parts.{field_in, place_of_field}
-use Rattle.fields.specs.declared.Sum.{Sum}
-use Rattle.fields.specs.Parts.{sum_by}
+use Rattle.fields.specs.Parts.{code_as, sum_by}
 use Rattle.fields.proofs.Fields.{field_room}
 
 -- ---- fields, whatever the edition
@@ -37,6 +37,22 @@ bits_take : (fs : List Field) (m : ℕ) → bits_of (take m fs) ≤ bits_of fs
 bits_take fs zero = zero-le
 bits_take [] (suc m) = zero-le
 bits_take (f ∷ fs) (suc m) = omega (arith, bits_take fs m)
+
+-- ---- a code, or none
+
+pub some_code : (c n : ℕ) → Some c ≡ code_as n → (c ≡ n) × (n < 256)
+some_code c n e = go (ltb n 256) refl e
+  where
+    go : (b : Bool) → ltb n 256 ≡ b → Some c ≡ cond b (Some n) None → (c ≡ n) × (n < 256)
+    go true t e = (cc, ltb-true n 256 t)
+    go false t e = absurd cc
+
+pub no_code : (n : ℕ) → None ≡ code_as n → 256 ≤ n
+no_code n e = go (ltb n 256) refl e
+  where
+    go : (b : Bool) → ltb n 256 ≡ b → None ≡ cond b (Some n) None → 256 ≤ n
+    go true t e = absurd cc
+    go false t e = ltb-false n 256 t
 
 module _ (ed : Edition) where
   -- ---- one field more
@@ -121,14 +137,14 @@ module _ (ed : Edition) where
           z : ℕ
           z = sent_code ed v (field_in r n)
 
-      pub not_filled : 256 ≤ sent_code ed v (field_in r n) → record { fits = false; payload = 0 } ≡ sum_by ed v (row r)
+      pub not_filled : 256 ≤ sent_code ed v (field_in r n) → None ≡ sum_by ed v (row r)
       not_filled h =
-          sym (ap (λ (b : Bool). cond {A = Sum} b (record { fits = true; payload = payload_for ed v (row r) }) (record { fits = false; payload = 0 }))
+          sym (ap (λ (b : Bool). cond b (Some (payload_for ed v (row r))) None)
           (carries_not v (row r).fields n (d 0) (omega (arith, sound_length (row r) (row_sound r hr))) h))
 
-    pub all_filled : (n payload : ℕ) → 8 ≤ n → Filled r v n payload → record { fits = true; payload = payload } ≡ sum_by ed v (row r)
+    pub all_filled : (n payload : ℕ) → 8 ≤ n → Filled r v n payload → Some payload ≡ sum_by ed v (row r)
     all_filled n payload h w =
         let e : take n (row r).fields ≡ (row r).fields = take_all n (row r).fields (omega (arith, sound_length (row r) (row_sound r hr))) in
         let s : payload ≡ payload_for ed v (row r) = w.sum ∙ ap (λ (l : List Field). (row r).type + 2 ^ (row r).lead * packed ed v l) e in
-        ap (λ (m : ℕ). record { fits = true; payload = m }) s
-        ∙ sym (ap (λ (b : Bool). cond {A = Sum} b (record { fits = true; payload = payload_for ed v (row r) }) (record { fits = false; payload = 0 })) (sym (ap (carries ed v) e) ∙ w.fit))
+        ap Some s
+        ∙ sym (ap (λ (b : Bool). cond b (Some (payload_for ed v (row r))) None) (sym (ap (carries ed v) e) ∙ w.fit))

@@ -1,9 +1,8 @@
 -- A reviewer can skip this file: the fields of a row, and which rows can carry a vector, as the numbers of the code have them.
-use Rattle.std.specs.Prelude.{true, false, cond, List, [], ◌∷◌, ℕ, zero, suc, ◌+◌, ◌*◌, ◌/◌, ◌%◌, ◌^◌, eqb, get_or, take, drop}
+use Rattle.std.specs.Prelude.{cond, Option, Some, None, List, [], ◌∷◌, ℕ, zero, suc, ◌+◌, ◌*◌, ◌/◌, ◌%◌, ◌^◌, eqb, ltb, get_or, take, drop}
 use Rattle.block.specs.declared.Edition.{Edition}
 use Rattle.block.specs.Block.{two_words, Slot, Control, Calm, Data, Set, Start, Terminate, Field, d, Format, flags_at, code_of, carries, payload_for}
 use Rattle.block.specs.Rows.{bits_of, formats, row, slot_number}
-use Rattle.fields.specs.declared.Sum.{Sum}
 
 -- the vector with these control bytes and eight octets, character 0 lowest
 abbrev pub spread : ℕ → ℕ → ℕ → List ℕ
@@ -61,6 +60,10 @@ next_by r = suc r + seek (flags_of (row r)) (drop (suc r) formats)
 abbrev pub field_code : Edition → ℕ → ℕ → ℕ → ℕ
 field_code ed r i lanes = code_of ed (field_in r i).slot (lanes / 2 ^ (8 * (field_in r i).char) % 2 ^ 8)
 
+-- a code is below 256; what is not says that there is none
+abbrev pub code_as : ℕ → Option ℕ
+code_as n = cond (ltb n 256) (Some n) None
+
 -- the payload of a format, where it carries the vector
-abbrev pub sum_by : Edition → List ℕ → Format → Sum
-sum_by ed v f = cond (carries ed v f.fields) (record { fits = true; payload = payload_for ed v f }) (record { fits = false; payload = 0 })
+abbrev pub sum_by : Edition → List ℕ → Format → Option ℕ
+sum_by ed v f = cond (carries ed v f.fields) (Some (payload_for ed v f)) None

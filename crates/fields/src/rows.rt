@@ -1,5 +1,5 @@
 // What encoding has to know of each row. Numbers in a `match`, not arrays: the compiler makes a table of them that no call builds anew.
-ghost use Rattle.std.specs.Prelude.{◌≡◌, ◌<◌};
+ghost use Rattle.std.specs.Prelude.{◌≡◌, ◌<◌, IfSome, unwrap_or};
 ghost use Rattle.block.specs.Rows.{row};
 ghost use Rattle.fields.specs.Parts.{fields_by, places_by, first_by, next_by};
 
@@ -78,38 +78,40 @@ pub fn places_of(r: usize) -> u64
     }
 }
 
-// The first row with these control bits, c0 + 16 * c1; 16 is none.
-pub fn first_row(m: u64) -> usize
+// The first row with these control bits, c0 + 16 * c1, if there is one.
+pub fn first_row(m: u64) -> Option<usize>
     requires { m < 256 }
-    ensures { result ≡ first_by m }
+    ensures row { unwrap_or result 16 ≡ first_by m }
+    ensures inside { IfSome result (λ r. r < 16) }
 {
     match m {
-        0x00 => 0,
-        0x01 => 6,
-        0x11 => 4,
-        0x1f => 2,
-        0x80 => 15,
-        0xc0 => 14,
-        0xe0 => 13,
-        0xf0 => 12,
-        0xf1 => 7,
-        0xf8 => 11,
-        0xfc => 10,
-        0xfe => 9,
-        0xff => 1,
-        _ => 16,
+        0x00 => Some(0),
+        0x01 => Some(6),
+        0x11 => Some(4),
+        0x1f => Some(2),
+        0x80 => Some(15),
+        0xc0 => Some(14),
+        0xe0 => Some(13),
+        0xf0 => Some(12),
+        0xf1 => Some(7),
+        0xf8 => Some(11),
+        0xfc => Some(10),
+        0xfe => Some(9),
+        0xff => Some(1),
+        _ => None,
     }
 }
 
-// The next row with the control bits of row r.
-pub fn next_row(r: usize) -> usize
+// The next row with the control bits of row r, if there is one.
+pub fn next_row(r: usize) -> Option<usize>
     requires { r < 16 }
-    ensures { result ≡ next_by r }
+    ensures row { unwrap_or result 16 ≡ next_by r }
+    ensures inside { IfSome result (λ n. n < 16) }
 {
     match r {
-        1 => 8,
-        2 => 3,
-        4 => 5,
-        _ => 16,
+        1 => Some(8),
+        2 => Some(3),
+        4 => Some(5),
+        _ => None,
     }
 }

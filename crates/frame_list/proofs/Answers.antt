@@ -1,5 +1,6 @@
 -- The verdict on a list of vectors, as callers use it, and how large an answer can be. Assumes nothing.
 use Prim.Native.Nat.{ℕ, zero, suc, ◌*◌, ◌/◌, ◌<◌, ◌≤◌}
+use Rattle.std.specs.Prelude.{Ok, Err}
 use mathlib.Core.Path.{◌≡◌, refl, sym, ap, ◌∙◌}
 use mathlib.Core.Bool.{Bool, true, false, cond}
 use mathlib.Core.List.{List, [], ◌∷◌, ◌++◌}
@@ -8,7 +9,7 @@ use lib.Dec.{ltb}
 use lib.ListN.{length, drop}
 use borrow.Author.Tests.{ltb-false, lt-ltb, le-ltb}
 use Rattle.refusals.specs.Number.{number_of}
-use Rattle.refusals.specs.declared.Refusal.{Refusal}
+use Rattle.refusals.specs.declared.Refused.{Refused}
 use Rattle.refusals.specs.declared.Refusal.TheVariants.{Room}
 use Rattle.refusals.proofs.Laws.{applied, skipped, accepts}
 use Rattle.refusals.specs.First.{Check, check_at, Verdict, accepted, refused, first, by_verdict}
@@ -17,7 +18,6 @@ use Rattle.vector_checks.proofs.Laws.{short, place_behind, stopped, went_on}
 use Rattle.frames.specs.Frames.{words_in, word_list}
 use Rattle.frames.proofs.Apart.{few_frames}
 use Rattle.frame_list.specs.Answer.{entries, frames_in, frames_number, frames_listed, ListAnswer, list_checks, list_answer, list_after, Lists}
-use Rattle.frame_list.specs.declared.Listed.TheVariants.{Done, Refused}
 use Rattle.frame_list.specs.Demand1.{RoomEnough}
 use Rattle.frame_list.specs.Answer as Answer
 
@@ -72,21 +72,21 @@ module _ (bytes list : List ℕ) where
   behind = check_at 4 (frames_number bytes) (ltb (length list) (12 * frames_number bytes)) ∷ []
 
   -- the vectors are refused
-  pub bad_vectors : (why : Refusal) (place : ℕ) → refused (number_of why) place ≡ first (vector_checks bytes) → Lists bytes list (Refused why place) list
+  pub bad_vectors : (r : Refused) → refused (number_of r.0) r.1 ≡ first (vector_checks bytes) → Lists bytes list (Err r) list
   unfolding list_answer list_after list_checks
-  bad_vectors why place e =
-      (stopped bytes behind (frames_listed (frames_number bytes)) Answer.refused (number_of why) place e, stopped bytes behind _ (λ number place. list) (number_of why) place e)
+  bad_vectors r e =
+      (stopped bytes behind (frames_listed (frames_number bytes)) Answer.refused (number_of r.0) r.1 e, stopped bytes behind _ (λ number place. list) (number_of r.0) r.1 e)
 
   module _ (a : accepted ≡ first (vector_checks bytes)) where
     -- the list is too small
-    pub small_list : (frames : ℕ) → frames ≡ frames_number bytes → ltb (length list) (12 * frames_number bytes) ≡ true → Lists bytes list (Refused Room frames) list
+    pub small_list : (frames : ℕ) → frames ≡ frames_number bytes → ltb (length list) (12 * frames_number bytes) ≡ true → Lists bytes list (Err (record { 0 = Room; 1 = frames })) list
     unfolding list_answer list_after list_checks
     small_list frames e t =
         let is : refused 4 frames ≡ first behind = ap (refused 4) e ∙ sym (applied (check_at 4 (frames_number bytes) (ltb (length list) (12 * frames_number bytes))) [] t) in
         (went_on bytes behind (frames_listed (frames_number bytes)) Answer.refused a (refused 4 frames) is, went_on bytes behind _ (λ number place. list) a (refused 4 frames) is)
 
     pub list_done : ltb (length list) (12 * frames_number bytes) ≡ false
-        → Lists bytes list (Done (frames_number bytes)) (entries (frames_in bytes) ++ drop (length (entries (frames_in bytes))) list)
+        → Lists bytes list (Ok (frames_number bytes)) (entries (frames_in bytes) ++ drop (length (entries (frames_in bytes))) list)
     unfolding list_answer list_after list_checks
     list_done t =
         let is : accepted ≡ first behind = sym (skipped (check_at 4 (frames_number bytes) (ltb (length list) (12 * frames_number bytes))) [] t ∙ accepts) in

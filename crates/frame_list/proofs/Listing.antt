@@ -13,7 +13,7 @@ use Rattle.lent_words.proofs.Laws.{length_words}
 use Rattle.frames.specs.Frames.{Frame, starts}
 use Rattle.frame_list.specs.Answer.{entry_words, entries, frames_in, frames_number}
 use Rattle.frames.specs.Words.{nth_word, quiet_before, frames_left}
-use Rattle.frame_starts.specs.Finds.{FindsStart}
+use Rattle.frame_starts.specs.Finds.{NextStart}
 use Rattle.frame_reading.specs.Reading.{ReadsFrame}
 use Rattle.frame_list.specs.Listing.{ListsOn}
 use Rattle.frame_reading.specs.declared.Ended.{Ended}
@@ -43,20 +43,22 @@ put_three l l₁ l₂ l₃ at a b c h e₁ e₂ e₃ =
 
 -- ---- listing
 
--- Nothing is listed where no frame begins.
-pub lists_stop : (bytes : List ℕ) (k n s : ℕ) (l : List ℕ) → FindsStart bytes k s → ListsOn bytes k n l (record { word = s; entries = n }) l
-lists_stop bytes k n s l f =
+-- Nothing is listed where no frame is left.
+pub lists_stop : (bytes : List ℕ) (k n : ℕ) (l : List ℕ) → k ≤ length bytes / 5 → frames_left bytes k ≡ []
+    → ListsOn bytes k n l (record { word = length bytes / 5; entries = n }) l
+lists_stop bytes k n l h e =
+    let none = e ∙ sym (left_end bytes (length bytes / 5) (omega arith)) in
     record {
-      later = f.later;
-      within = f.within;
+      later = h;
+      within = omega arith;
       more = omega arith;
-      number = ap (λ (fs : List Frame). n + length fs) f.rest;
-      same = ap (λ (fs : List Frame). take (12 * n) l ++ entries fs) f.rest;
+      number = ap (λ (fs : List Frame). n + length fs) none;
+      same = ap (λ (fs : List Frame). take (12 * n) l ++ entries fs) none;
       rest = refl;
     }
 
 -- Words up to the next Start are passed.
-pub lists_skip : (bytes : List ℕ) (k n s : ℕ) (l : List ℕ) (r : Reached) (m : List ℕ) → FindsStart bytes k s → ListsOn bytes s n l r m → ListsOn bytes k n l r m
+pub lists_skip : (bytes : List ℕ) (k n s : ℕ) (l : List ℕ) (r : Reached) (m : List ℕ) → NextStart bytes k s → ListsOn bytes s n l r m → ListsOn bytes k n l r m
 lists_skip bytes k n s l r m f p =
     record {
       later = omega (arith, f.later, p.later);

@@ -1,12 +1,11 @@
 -- What listing the frames answers, and what it leaves in the lent list: document 02, 5/13, with the refusals of document 01.
-use Rattle.std.specs.Prelude.{ℕ, ◌*◌, List, [], ◌∷◌, ◌++◌, ◌≡◌, length, drop, ltb}
-use Rattle.refusals.specs.Number.{number_of}
+use Rattle.std.specs.Prelude.{ℕ, ◌*◌, List, [], ◌∷◌, ◌++◌, ◌≡◌, length, drop, ltb, Result}
 use Rattle.refusals.specs.First.{Check, check_at, first, by_verdict}
+use Rattle.refusals.specs.Refused.{by_result}
+use Rattle.refusals.specs.declared.Refused.{Refused}
 use Rattle.vector_checks.specs.Checks.{vector_checks}
 use Rattle.lent_words.specs.Words.{word_bytes, flag_word}
 use Rattle.frames.specs.Frames.{word_list, data_octets, is_good, Frame, frames_of}
-use Rattle.frame_list.specs.declared.Listed.{Listed}
-use Rattle.frame_list.specs.declared.Listed.TheVariants.{Done, Refused}
 
 -- "word number from 0, data octets after Start, good or bad": 1 is good, 0 is bad
 abbrev pub entry_words : Frame → List ℕ
@@ -42,10 +41,9 @@ list_after bytes list =
     by_verdict (first (list_checks bytes (length list))) (entries (frames_in bytes) ++ drop (length (entries (frames_in bytes))) list) (λ number place. list)
 
 -- the document's number and values for each case of the answer
-abbrev pub answer_of : Listed → ListAnswer
-answer_of (Done n) = frames_listed n
-answer_of (Refused why place) = refused (number_of why) place
+abbrev pub answer_of : Result ℕ Refused → ListAnswer
+answer_of = by_result frames_listed refused
 
 -- the promise: `list` was lent `list`, answered `r` and left `list'`
-abbrev pub Lists : (bytes list : List ℕ) (r : Listed) (list' : List ℕ) → Type 0
+abbrev pub Lists : (bytes list : List ℕ) (r : Result ℕ Refused) (list' : List ℕ) → Type 0
 Lists bytes list r list' = (answer_of r ≡ list_answer bytes (length list)) × (list' ≡ list_after bytes list)

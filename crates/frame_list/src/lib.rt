@@ -8,19 +8,12 @@ ghost use Rattle.frames.specs.Words.{nth_word, quiet_before, frames_left};
 ghost use Rattle.frame_list.specs.Answer.{entries, frames_in, frames_number, Lists};
 ghost use Rattle.frame_list.specs.Listing.{ListsOn};
 
-use frame_reading::read_frame;
+use frame_reading::{Ended, read_frame};
 use frame_starts::{count, next_start};
 use lent_words::flag;
 use line::store_half;
-use refusals::Refusal;
-use vector_checks::{Checked, check_vectors};
-
-// The answer: how many frames were listed; or a refusal and its place.
-#[derive(Clone, Copy)]
-pub enum Listed {
-    Done(usize),
-    Refused(Refusal, usize),
-}
+use refusals::{Refusal, Refused};
+use vector_checks::check_vectors;
 
 // How far listing came: the word at which it goes on, and how many entries are in the list.
 #[derive(Clone, Copy)]
@@ -29,30 +22,30 @@ struct Reached {
     entries: usize,
 }
 
-// An entry at a place of the list.
-fn put_entry(list: &mut [u8], at: usize, word: usize, octets: usize, good: bool)
+// The entry, at a place of the list, of a frame that begins in this word.
+fn put_entry(list: &mut [u8], at: usize, word: usize, frame: Ended)
     requires { at + 12 ≤ length list.old }
-    ensures { list.new ≡ take at list.old ++ word_bytes 4 (word ∷ octets ∷ flag_word good ∷ []) ++ drop (at + 12) list.old }
+    ensures { list.new ≡ take at list.old ++ word_bytes 4 (word ∷ frame.octets ∷ flag_word frame.good ∷ []) ++ drop (at + 12) list.old }
 {
     store_half(list, at, word as u64);
-    store_half(list, at + 4, octets as u64);
-    store_half(list, at + 8, flag(good));
+    store_half(list, at + 4, frame.octets as u64);
+    store_half(list, at + 8, flag(frame.good));
 }
 
 // Reading between frames, from word k on: up to the next Start, and then inside. The compiler makes no jumps of these calls: `turns` says how
 // many frames may still be read before the pair returns to be called again, so that it takes no more stack for many frames than for few.
+// Document 01 names this form: "two functions in the frame crate of 02 call each other, words remaining falling".
 #[cycle(between_inside)]
 fn between(bytes: &[u8], list: &mut [u8], k: usize, n: usize, turns: usize) -> Reached
     requires { (k ≤ length bytes.now / 5) × (length bytes.now ≤ 1000000) × (12 * (n + length (frames_left bytes.now k)) ≤ length list.old) }
     ensures { ListsOn bytes.now k n list.old result list.new × (k < length bytes.now / 5 → k < result.word) }
 {
-    let start = next_start(bytes, k);
-    if start < bytes.len() / 5 {
-        return inside(bytes, list, start, n, turns);
-    }
-    Reached {
-        word: start,
-        entries: n,
+    match next_start(bytes, k) {
+        Some(start) => inside(bytes, list, start, n, turns),
+        None => Reached {
+            word: bytes.len() / 5,
+            entries: n,
+        },
     }
 }
 
@@ -63,15 +56,14 @@ fn inside(bytes: &[u8], list: &mut [u8], k: usize, n: usize, turns: usize) -> Re
     ensures { ListsOn bytes.now k n list.old result list.new × (k < length bytes.now / 5 → k < result.word) }
 {
     let frame = read_frame(bytes, k);
-    let next = frame.next;
-    put_entry(list, 12 * n, k, frame.octets, frame.good);
+    put_entry(list, 12 * n, k, frame);
     if turns == 0 {
         return Reached {
-            word: next,
+            word: frame.next,
             entries: n + 1,
         };
     }
-    between(bytes, list, next, n + 1, turns - 1)
+    between(bytes, list, frame.next, n + 1, turns - 1)
 }
 
 // All frames, listed from the start of the list; how many they are.
@@ -101,17 +93,13 @@ fn counted(bytes: &[u8], list: usize) -> usize
 }
 
 // Lists the frames of a list of vectors, 12 bytes a frame, at the start of the lent list.
-pub fn list(vectors: &[u8], list: &mut [u8]) -> Listed
+pub fn list(vectors: &[u8], list: &mut [u8]) -> Result<usize, Refused>
     ensures { Lists vectors.now list.old result list.new }
 {
-    match check_vectors(vectors) {
-        Checked::Refused(why, place) => Listed::Refused(why, place),
-        Checked::Sound => {
-            let frames = counted(vectors, list.len());
-            if list.len() < 12 * frames {
-                return Listed::Refused(Refusal::Room, frames);
-            }
-            Listed::Done(list_all(vectors, list))
-        }
+    check_vectors(vectors)?;
+    let frames = counted(vectors, list.len());
+    if list.len() < 12 * frames {
+        return Err(Refused(Refusal::Room, frames));
     }
+    Ok(list_all(vectors, list))
 }

@@ -1,5 +1,5 @@
 -- What reading a character makes of a frame. Assumes nothing.
-use Prim.Native.Nat.{ℕ, ◌+◌, ◌*◌}
+use Prim.Native.Nat.{ℕ, ◌+◌, ◌%◌, ◌/◌}
 use mathlib.Core.Path.{◌≡◌, refl, sym, ◌∙◌}
 use mathlib.Core.Bool.{Bool, true, false, not, ◌&&◌, true≢false, and-false, or-false}
 use mathlib.Core.List.{List, [], ◌∷◌}
@@ -9,8 +9,7 @@ use lib.ListN.{get_or}
 use borrow.Author.Tests.{eqb-true, ne_eqb}
 use Rattle.refusals.proofs.Laws.{by_test}
 use Rattle.frames.specs.Frames.{Character, data_octet, control_character, by_flag, lane_character, characters_of, quiet, ends_frame, up_to_end, data_octets, is_good, after_start}
-use Rattle.frames.specs.Words.{nth_word}
-use Rattle.frames.proofs.Quiet.{lane_zero, lane_one, lane_two, lane_three, quiet_ends}
+use Rattle.frames.proofs.Quiet.{quiet_ends}
 use Rattle.frame_reading.specs.Reading.{with_character, with_three, with_word, octets_in, good_in}
 use Rattle.frame_reading.specs.declared.Reading.{Reading}
 
@@ -42,17 +41,17 @@ open_loud r w g =
 
 -- ---- one character
 
-pub with_octet : (r : Reading) (b o : ℕ) → r.going ≡ true → b ≡ 0 → record { going = true; octets = r.octets + 1; good = r.good } ≡ with_character r (by_flag b o)
+pub with_octet : (r : Reading) (b o : ℕ) → r.going ≡ true → b ≡ 0 → record r { octets = r.octets + 1 } ≡ with_character r (by_flag b o)
 unfolding with_character
 with_octet r b o g e = rw (g, e)
 
 pub with_error : (r : Reading) (b o : ℕ) → r.going ≡ true → (b ≡ 0 → ⊥) → o ≡ 0xfe
-    → record { going = true; octets = r.octets; good = false } ≡ with_character r (by_flag b o)
+    → record r { good = false } ≡ with_character r (by_flag b o)
 unfolding with_character
 with_error r b o g n e = rw (g, ne_eqb b 0 n, e)
 
 pub with_end : (r : Reading) (b o : ℕ) (good : Bool) → r.going ≡ true → (b ≡ 0 → ⊥) → (o ≡ 0xfe → ⊥) → good ≡ (r.good && eqb o 0xfd)
-    → record { going = false; octets = r.octets; good = good } ≡ with_character r (by_flag b o)
+    → record r { going = false; good = good } ≡ with_character r (by_flag b o)
 unfolding with_character
 with_end r b o good g n m e = rw (g, ne_eqb b 0 n, ne_eqb o 0xfe m, e)
 
@@ -60,24 +59,22 @@ pub with_none : (r : Reading) (c : Character) → r.going ≡ false → r ≡ wi
 unfolding with_character
 with_none r c e = rw e
 
--- a word of four data octets
+-- a word, by its control byte and its lanes
+pub lane_zero : (w : List ℕ) → lane_character w 0 ≡ by_flag (get_or w 0 0 % 2) (get_or w 1 0)
+lane_zero w = let a : get_or w 0 0 / 1 % 2 ≡ get_or w 0 0 % 2 = omega arith in rw a
+
+-- four data octets
 four_octets : (r : Reading) (a b c d : ℕ) → r.going ≡ true
-    → record { going = true; octets = r.octets + 4; good = r.good }
+    → record r { octets = r.octets + 4 }
     ≡ with_character (with_character (with_character (with_character r (data_octet a)) (data_octet b)) (data_octet c)) (data_octet d)
 unfolding with_character
 four_octets r a b c d g =
     let n : r.octets + 4 ≡ r.octets + 1 + 1 + 1 + 1 = omega arith in
     rw (g, n)
 
-pub word_octets : (r : Reading) (bytes : List ℕ) (k : ℕ) → r.going ≡ true → get_or bytes (5 * k) 0 ≡ 0
-    → record { going = true; octets = r.octets + 4; good = r.good } ≡ with_word r (nth_word bytes k)
+pub word_octets : (r : Reading) (w : List ℕ) → r.going ≡ true → get_or w 0 0 ≡ 0 → record r { octets = r.octets + 4 } ≡ with_word r w
 unfolding with_word
-word_octets r bytes k g e =
-    let l = lane_zero bytes k in
-    let m = lane_one bytes k in
-    let n = lane_two bytes k in
-    let o = lane_three bytes k in
-    four_octets r (get_or bytes (5 * k + 1) 0) (get_or bytes (5 * k + 2) 0) (get_or bytes (5 * k + 3) 0) (get_or bytes (5 * k + 4) 0) g ∙ sym (rw (l, m, n, o, e))
+word_octets r w g e = four_octets r (get_or w 1 0) (get_or w 2 0) (get_or w 3 0) (get_or w 4 0) g ∙ sym (rw (lane_zero w, e))
 
 -- ---- what it comes to is the same before and after a character
 

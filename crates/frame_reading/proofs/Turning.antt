@@ -70,9 +70,9 @@ in_turn bytes k j r s i h g e n =
     }
 
 -- it has ended
-pub in_ended : (bytes : List ℕ) (k j : ℕ) (r : Reading) → length bytes ≤ 1000000 → InFrame bytes k r j → r.going ≡ false
+pub in_ended : (bytes : List ℕ) (k j : ℕ) (r : Reading) → InFrame bytes k r j → r.going ≡ false
     → ReadsFrame bytes k (record { octets = r.octets; good = r.good; next = j })
-in_ended bytes k j r l i g =
+in_ended bytes k j r i g =
     record {
       octets = sym (octets_ended r (characters_of (words_from bytes j)) g) ∙ i.octets;
       good = sym (good_ended r (characters_of (words_from bytes j)) g) ∙ i.good;
@@ -82,15 +82,16 @@ in_ended bytes k j r l i g =
     }
 
 -- no words are left
-pub in_done : (bytes : List ℕ) (k j : ℕ) (r : Reading) (good : Bool) → length bytes ≤ 1000000 → InFrame bytes k r j → length bytes / 5 ≤ j → good ≡ (not r.going && r.good)
-    → ReadsFrame bytes k (record { octets = r.octets; good = good; next = j })
+pub in_done : (bytes : List ℕ) (k j : ℕ) (r : Reading) (good : Bool) → InFrame bytes k r j → length bytes / 5 ≤ j → good ≡ (not r.going && r.good)
+    → ReadsFrame bytes k (record { octets = r.octets; good = good; next = length bytes / 5 })
 unfolding characters_of
-in_done bytes k j r good l i h e =
+in_done bytes k j r good i h e =
     let n = words_end bytes j h in
+    let l : j ≡ length bytes / 5 = omega (arith, i.within) in
     record {
       octets = sym (ap (λ (ws : List (List ℕ)). octets_in r (characters_of ws)) n ∙ octets_end r) ∙ i.octets;
       good = e ∙ sym (ap (λ (ws : List (List ℕ)). good_in r (characters_of ws)) n ∙ good_end r) ∙ i.good;
-      later = i.later;
-      within = i.within;
-      rest = i.rest;
+      later = omega (arith, i.later);
+      within = omega arith;
+      rest = i.rest ∙ ap (λ (x : ℕ). frames_left bytes x) l;
     }

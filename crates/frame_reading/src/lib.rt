@@ -6,8 +6,11 @@ ghost use Rattle.frames.specs.Frames.{by_flag, starts};
 ghost use Rattle.frames.specs.Words.{nth_word, quiet_before};
 ghost use Rattle.frame_reading.specs.Reading.{with_character, with_three, with_word, ReadsFrame};
 
+use frames::nth_word;
+
 // A frame while it is read: whether it is open, its data octets so far, and whether it is good; while it is open, as far as it was read.
-#[derive(Clone, Copy)]
+// Flags stay: an enum of open and ended has octets and good in both. How many octets it can have grows with each call: no invariant says it.
+#[derive(Clone, Copy, Debug, PartialEq, Eq)]
 struct Reading {
     going: bool,
     octets: usize,
@@ -15,70 +18,66 @@ struct Reading {
 }
 
 // A frame that was read: its data octets, whether it is good, and the word at which reading goes on.
-#[derive(Clone, Copy)]
+#[derive(Clone, Copy, Debug, PartialEq, Eq)]
 pub struct Ended {
     pub octets: usize,
     pub good: bool,
     pub next: usize,
 }
 
-// One character inside a frame, by its control bit.
-fn read_lane(r: Reading, flag: u8, octet: u8) -> Reading
-    requires { r.octets ≤ 1000000 }
-    ensures { (result ≡ with_character r (by_flag flag octet)) × (result.octets ≤ r.octets + 1) }
-{
-    if r.going {
+impl Reading {
+    // After one character more, by its control bit. A frame that has ended stays as it is.
+    fn lane(self, flag: u8, octet: u8) -> Reading
+        requires { self.octets ≤ 1000000 }
+        ensures { (result ≡ with_character self (by_flag flag octet)) × (result.octets ≤ self.octets + 1) }
+    {
+        if !self.going {
+            return self;
+        }
         if flag == 0 {
             return Reading {
-                going: true,
-                octets: r.octets + 1,
-                good: r.good,
+                octets: self.octets + 1,
+                ..self
             };
         }
         if octet == 0xfe {
             return Reading {
-                going: true,
-                octets: r.octets,
                 good: false,
+                ..self
             };
         }
-        return Reading {
+        Reading {
             going: false,
-            octets: r.octets,
-            good: r.good && octet == 0xfd,
-        };
+            good: self.good && octet == 0xfd,
+            ..self
+        }
     }
-    r
-}
 
-// The characters of lanes 1 to 3 of a word.
-fn read_three(r: Reading, bytes: &[u8], k: usize) -> Reading
-    requires { (k < length bytes.now / 5) × (r.octets ≤ 900000) }
-    ensures { (result ≡ with_three r (nth_word bytes.now k)) × (result.octets ≤ r.octets + 3) }
-{
-    let at = 5 * k;
-    let c = bytes[at];
-    let s = read_lane(r, c / 2 % 2, bytes[at + 2]);
-    let t = read_lane(s, c / 4 % 2, bytes[at + 3]);
-    read_lane(t, c / 8 % 2, bytes[at + 4])
-}
-
-// The characters of a word inside an open frame. Most words are four data octets.
-fn read_word(r: Reading, bytes: &[u8], k: usize) -> Reading
-    requires { (k < length bytes.now / 5) × (r.octets ≤ 800000) × (r.going ≡ true) }
-    ensures { (result ≡ with_word r (nth_word bytes.now k)) × (result.octets ≤ r.octets + 4) }
-{
-    let at = 5 * k;
-    let c = bytes[at];
-    if c == 0 {
-        return Reading {
-            going: true,
-            octets: r.octets + 4,
-            good: r.good,
-        };
+    // After the characters of lanes 1 to 3 of a word.
+    fn three(self, word: &[u8]) -> Reading
+        requires { (length word.now ≡ 5) × (self.octets ≤ 900000) }
+        ensures { (result ≡ with_three self word.now) × (result.octets ≤ self.octets + 3) }
+    {
+        let flags = word[0];
+        self.lane(flags / 2 % 2, word[2])
+            .lane(flags / 4 % 2, word[3])
+            .lane(flags / 8 % 2, word[4])
     }
-    let s = read_lane(r, c % 2, bytes[at + 1]);
-    read_three(s, bytes, k)
+
+    // An open frame after the characters of a word. Most words are four data octets.
+    fn word(self, word: &[u8]) -> Reading
+        requires { (length word.now ≡ 5) × (self.octets ≤ 800000) × (self.going ≡ true) }
+        ensures { (result ≡ with_word self word.now) × (result.octets ≤ self.octets + 4) }
+    {
+        let flags = word[0];
+        if flags == 0 {
+            return Reading {
+                octets: self.octets + 4,
+                ..self
+            };
+        }
+        self.lane(flags % 2, word[1]).three(word)
+    }
 }
 
 // Reads the frame that begins in word k.
@@ -92,23 +91,20 @@ pub fn read_frame(bytes: &[u8], k: usize) -> Ended
         octets: 0,
         good: true,
     };
-    let mut r = read_three(first, bytes, k);
-    let mut j = k + 1;
-    while j < words {
-        if r.going {
-            r = read_word(r, bytes, j);
-            j = j + 1;
-        } else {
+    let mut r = first.three(nth_word(bytes, k));
+    for j in k + 1..words {
+        if !r.going {
             return Ended {
                 octets: r.octets,
                 good: r.good,
                 next: j,
             };
         }
+        r = r.word(nth_word(bytes, j));
     }
     Ended {
         octets: r.octets,
         good: !r.going && r.good,
-        next: j,
+        next: words,
     }
 }

@@ -12,8 +12,6 @@ use Rattle.refusals.proofs.Laws.{by_test}
 use Rattle.bits.specs.Bits.{number, line_bit}
 use Rattle.line.proofs.Laws.{bytes_at, bytes_at_number}
 use Rattle.frames.specs.Frames.{Character, data_octet, control_character, by_flag, lane_character, is_data_octet, is, four_idles, sequence_set, quiet, starts, ends_frame}
-use Rattle.frames.specs.Words.{nth_word}
-use Rattle.frames.proofs.Words.{word_byte, word_first}
 
 pub and_both : (a b : Bool) → (a && b) ≡ true → (a ≡ true) × (b ≡ true)
 and_both a b e = (and-eq-true_iff a b).0 e
@@ -184,59 +182,36 @@ quiet_is w =
     (λ u. first_control w (eqb-true (get_or w 0 0 % 16) 1 u) ∙ sym (rw (t, u)))
     (λ u. other_control w (eqb-false (get_or w 0 0 % 16) 15 t) (eqb-false (get_or w 0 0 % 16) 1 u) ∙ sym (rw (t, u))))
 
-module _ (bytes : List ℕ) (k : ℕ) where
+module _ (w : List ℕ) where
   -- a word as the code has it: its control byte, and its lanes
   abbrev Loaded : (control lanes word : ℕ) → Type 0
-  Loaded control lanes word =
-      (control ≡ get_or bytes (5 * k) 0) × (lanes ≡ number 32 (λ i. line_bit bytes (8 * (5 * k + 1) + i))) × (word ≡ control % 16 + lanes * 256)
+  Loaded control lanes word = (control ≡ get_or w 0 0) × (lanes ≡ number 32 (λ i. line_bit w (8 * 1 + i))) × (word ≡ control % 16 + lanes * 256)
 
-  module _ (small : (i : ℕ) → get_or bytes i 0 < 256) (control lanes word : ℕ) (l : Loaded control lanes word) where
-    in_one_lem : word ≡ in_one (get_or bytes (5 * k) 0) (get_or bytes (5 * k + 1) 0) (get_or bytes (5 * k + 2) 0) (get_or bytes (5 * k + 3) 0) (get_or bytes (5 * k + 4) 0)
+  module _ (small : (i : ℕ) → get_or w i 0 < 256) (control lanes word : ℕ) (l : Loaded control lanes word) where
+    in_one_lem : word ≡ in_one (get_or w 0 0) (get_or w 1 0) (get_or w 2 0) (get_or w 3 0) (get_or w 4 0)
     unfolding bytes_at
     in_one_lem =
-        let a : 5 * k + 1 + 0 ≡ 5 * k + 1 = omega arith in
-        let b : 5 * k + 1 + 1 ≡ 5 * k + 2 = omega arith in
-        let c : 5 * k + 1 + 2 ≡ 5 * k + 3 = omega arith in
-        let d : 5 * k + 1 + 3 ≡ 5 * k + 4 = omega arith in
-        let n : bytes_at bytes (5 * k + 1) 4
-        ≡ get_or bytes (5 * k + 1) 0 + get_or bytes (5 * k + 2) 0 * 256 + get_or bytes (5 * k + 3) 0 * 65536 + get_or bytes (5 * k + 4) 0 * 16777216 =
-        rw (a, b, c, d) (omega arith) in
-        l.2 ∙ ap₂ (λ (x y : ℕ). x % 16 + y * 256) l.0 (l.1 ∙ sym (bytes_at_number bytes small (5 * k + 1) 4) ∙ n)
+        let n : bytes_at w 1 4 ≡ get_or w 1 0 + get_or w 2 0 * 256 + get_or w 3 0 * 65536 + get_or w 4 0 * 16777216 = omega arith in
+        l.2 ∙ ap₂ (λ (x y : ℕ). x % 16 + y * 256) l.0 (l.1 ∙ sym (bytes_at_number w small 1 4) ∙ n)
 
-    quiet_by : (eqb word 0x07_0707_070f || eqb (word % 65536) 0x9c01) ≡ quiet (nth_word bytes k)
+    quiet_by : (eqb word 0x07_0707_070f || eqb (word % 65536) 0x9c01) ≡ quiet w
     quiet_by =
         ap (λ (n : ℕ). eqb n 0x07_0707_070f || eqb (n % 65536) 0x9c01) in_one_lem
-        ∙ ap₂ ◌||◌ (four_idles_lem _ _ _ _ _ (small (5 * k + 1)) (small (5 * k + 2)) (small (5 * k + 3)) (small (5 * k + 4))) (a_set _ _ _ _ _ (small (5 * k + 1)))
-        ∙ sym (quiet_is (nth_word bytes k)
-        ∙ rw (word_first bytes k, word_byte bytes k 1 (omega arith), word_byte bytes k 2 (omega arith), word_byte bytes k 3 (omega arith), word_byte bytes k 4 (omega arith)))
+        ∙ ap₂ ◌||◌ (four_idles_lem _ _ _ _ _ (small 1) (small 2) (small 3) (small 4)) (a_set _ _ _ _ _ (small 1))
+        ∙ sym (quiet_is w)
 
-    pub idles_at : word ≡ 0x07_0707_070f → eqb word 0x07_0707_070f ≡ quiet (nth_word bytes k)
+    pub idles_at : word ≡ 0x07_0707_070f → eqb word 0x07_0707_070f ≡ quiet w
     idles_at e = eq-eqb word 0x07_0707_070f e ∙ ap (λ (b : Bool). b || eqb (word % 65536) 0x9c01) (sym (eq-eqb word 0x07_0707_070f e)) ∙ quiet_by
 
-    pub set_at : (word ≡ 0x07_0707_070f → ⊥) → eqb (word % 65536) 0x9c01 ≡ quiet (nth_word bytes k)
+    pub set_at : (word ≡ 0x07_0707_070f → ⊥) → eqb (word % 65536) 0x9c01 ≡ quiet w
     set_at n = ap (λ (b : Bool). b || eqb (word % 65536) 0x9c01) (sym (ne_eqb word 0x07_0707_070f n)) ∙ quiet_by
 
-  -- the character in a lane, by its bytes
-  pub lane_zero : lane_character (nth_word bytes k) 0 ≡ by_flag (get_or bytes (5 * k) 0 % 2) (get_or bytes (5 * k + 1) 0)
-  lane_zero =
-      let a : get_or (nth_word bytes k) 0 0 / 1 % 2 ≡ get_or bytes (5 * k) 0 % 2 = omega (arith, word_first bytes k) in
-      rw (a, word_byte bytes k 1 (omega arith))
-
-  pub lane_one : lane_character (nth_word bytes k) 1 ≡ by_flag (get_or bytes (5 * k) 0 / 2 % 2) (get_or bytes (5 * k + 2) 0)
-  lane_one = rw (word_first bytes k, word_byte bytes k 2 (omega arith))
-
-  pub lane_two : lane_character (nth_word bytes k) 2 ≡ by_flag (get_or bytes (5 * k) 0 / 4 % 2) (get_or bytes (5 * k + 3) 0)
-  lane_two = rw (word_first bytes k, word_byte bytes k 3 (omega arith))
-
-  pub lane_three : lane_character (nth_word bytes k) 3 ≡ by_flag (get_or bytes (5 * k) 0 / 8 % 2) (get_or bytes (5 * k + 4) 0)
-  lane_three = rw (word_first bytes k, word_byte bytes k 4 (omega arith))
-
-  pub starts_by : (control octet : ℕ) → octet < 256 → control ≡ get_or bytes (5 * k) 0 → octet ≡ get_or bytes (5 * k + 1) 0
-      → eqb (control % 2 + octet * 256) 0xfb01 ≡ starts (nth_word bytes k)
+  pub starts_by : (control octet : ℕ) → octet < 256 → control ≡ get_or w 0 0 → octet ≡ get_or w 1 0 → eqb (control % 2 + octet * 256) 0xfb01 ≡ starts w
   unfolding starts
   starts_by control octet l c o =
+      let e : control % 2 ≡ get_or w 0 0 / 1 % 2 = omega (arith, c) in
       by_flag_lem (control % 2) octet l (omega arith)
-      ∙ sym (ap (is 0xfb) (lane_zero ∙ ap₂ by_flag (ap (λ (n : ℕ). n % 2) (sym c)) (sym o)))
+      ∙ ap (is 0xfb) (ap₂ by_flag e o)
     where
       by_flag_lem : (f o : ℕ) → o < 256 → f < 2 → eqb (f + o * 256) 0xfb01 ≡ is 0xfb (by_flag f o)
       by_flag_lem zero o l m =

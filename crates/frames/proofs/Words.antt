@@ -5,19 +5,10 @@ use mathlib.Core.Bool.{Bool, true, false, cond, ◌&&◌}
 use mathlib.Core.List.{List, [], ◌∷◌, ◌++◌}
 use native.Mathlib.Omega.{arith}
 use native.Mathlib.Numerals.{add-one}
-use lib.ListN.{length, get_or, drop}
-use lib.Seq.{get_or-take, get_or-drop, drop-drop}
+use lib.ListN.{length, drop}
+use lib.Seq.{drop-drop}
 use Rattle.frames.specs.Frames.{words_in, word_list, quiet, starts, up_to_end, after_start, Frame, frames_from, frames_of}
 use Rattle.frames.specs.Words.{nth_word, words_from, quiet_before, frames_left}
-
--- a byte of a word
-pub word_byte : (bytes : List ℕ) (k i : ℕ) → i < 5 → get_or (nth_word bytes k) i 0 ≡ get_or bytes (5 * k + i) 0
-word_byte bytes k i h = get_or-take 5 (drop (5 * k) bytes) i 0 h ∙ get_or-drop (5 * k) bytes i 0
-
-pub word_first : (bytes : List ℕ) (k : ℕ) → get_or (nth_word bytes k) 0 0 ≡ get_or bytes (5 * k) 0
-word_first bytes k =
-    let e : 5 * k + 0 ≡ 5 * k = omega arith in
-    word_byte bytes k 0 (omega arith) ∙ ap (λ (n : ℕ). get_or bytes n 0) e
 
 -- word k, and then the words from the next on
 pub words_step : (bytes : List ℕ) (k : ℕ) → k < length bytes / 5 → words_from bytes k ≡ nth_word bytes k ∷ words_from bytes (k + 1)

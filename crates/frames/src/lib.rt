@@ -5,23 +5,29 @@ ghost use Rattle.std.specs.Prelude.{◌≡◌, ◌/◌, ◌<◌, length};
 ghost use Rattle.frames.specs.Frames.{quiet, starts};
 ghost use Rattle.frames.specs.Words.{nth_word};
 
-use line::{load_half, wide};
+use line::load_half;
+
+// Word k of a list of words: its control byte, and its four lanes.
+pub fn nth_word(bytes: &[u8], k: usize) -> &[u8]
+    requires { k < length bytes.now / 5 }
+    ensures { result.now ≡ nth_word bytes.now k }
+{
+    &bytes[5 * k..5 * k + 5]
+}
 
 // "four idles or a sequence ordered set": the four flags and the lanes as one number, of which no test waits for another.
-pub fn quiet_at(bytes: &[u8], k: usize) -> bool
-    requires { k < length bytes.now / 5 }
-    ensures { result ≡ quiet (nth_word bytes.now k) }
+pub fn is_quiet(word: &[u8]) -> bool
+    requires { length word.now ≡ 5 }
+    ensures { result ≡ quiet word.now }
 {
-    let at = 5 * k;
-    let word = wide(bytes[at]) % 16 + load_half(bytes, at + 1) * 256;
+    let word = u64::from(word[0]) % 16 + load_half(word, 1) * 256;
     word == 0x07_0707_070f || word % 65536 == 0x9c01
 }
 
 // "Start in lane 0 of a word": its flag and its octet as one number.
-pub fn starts_at(bytes: &[u8], k: usize) -> bool
-    requires { k < length bytes.now / 5 }
-    ensures { result ≡ starts (nth_word bytes.now k) }
+pub fn has_start(word: &[u8]) -> bool
+    requires { length word.now ≡ 5 }
+    ensures { result ≡ starts word.now }
 {
-    let at = 5 * k;
-    wide(bytes[at]) % 2 + wide(bytes[at + 1]) * 256 == 0xfb01
+    u64::from(word[0]) % 2 + u64::from(word[1]) * 256 == 0xfb01
 }

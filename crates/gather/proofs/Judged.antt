@@ -1,6 +1,6 @@
 -- What judging one record comes to, in each of the cases that the code tells apart: the step's number, and the whole store.
 use Prim.Native.Nat.{ℕ, ◌+◌, ◌-◌, ◌≤◌, ◌<◌}
-use mathlib.Core.Path.{◌≡◌, refl, sym, ap, subst, ◌∙◌}
+use mathlib.Core.Path.{◌≡◌, refl, sym, ap, ◌∙◌}
 use mathlib.Core.List.{List, ◌++◌}
 use native.Mathlib.Omega.{arith}
 use native.Mathlib.Nat.{le_refl}
@@ -14,11 +14,7 @@ use Rattle.putting.proofs.Laws.{overlaid_on}
 use Rattle.records.specs.Record.{Answer, whole, end, refused, read_at, body_of}
 use Rattle.refusals.proofs.Laws.{by_test}
 use Rattle.records.proofs.Laws.{body_length}
-use Rattle.gather.specs.Gather.{judged, Gathered, more, next, RecordRead, window, failure, next_read, read_of, bytes_in, Turn, so_far, in_all, refusal, turn_in, Shows}
-use Rattle.gather.specs.declared.Got.{Got}
-use Rattle.gather.specs.declared.Got.TheVariants as Came
-use Rattle.gather.specs.declared.Step as S
-use Rattle.gather.specs.declared.Step.TheVariants as Case
+use Rattle.gather.specs.Gather.{judged, Gathered, more, next, RecordRead, window, failure, next_read, bytes_in, Turn, so_far, in_all, refusal, turn_in}
 
 -- What is gathered stays in the store, from its start on.
 pub kept : (used : ℕ) (store : List ℕ) → used ≤ length store → overlaid 0 (take used store) store ≡ store
@@ -72,20 +68,6 @@ module _ (limit kind used : ℕ) (w store : List ℕ) (fits : used ≤ length st
         let n = body_length limit w 0 k start len nx found in
         let l : length (take used store ++ body_of w start len) ≡ used + len = omega (arith, length-append (take used store) (body_of w start len), length-take-le used store fits, n) in
         simp (found, eq-eqb k kind e, t) (ap so_far (sym l), x ∙ ap (λ (p : List ℕ). overlaid used p store) b ∙ grown used store (body_of w start len) (omega (arith, n)))
-
--- What reading came to, told apart.
-module _ (limit kind used : ℕ) (got : Got) (buffer store : List ℕ) where
-  -- What judging answers and leaves in the store, where reading came to that.
-  abbrev Answers : S.Step → List ℕ → Got → Type 0
-  Answers step exit came = Shows (next_read limit kind (length store) (read_of came buffer) (more (take used store))) store step exit
-
-  -- It came to that.
-  pub came_to : (came : Got) (step : S.Step) (exit : List ℕ) → got ≡ came → Answers step exit came → Answers step exit got
-  came_to came step exit e = subst (Answers step exit) (sym e)
-
-  -- A read failed.
-  pub read_failed : used ≤ length store → got ≡ Came.Failed → Answers Case.Failed store got
-  read_failed fits e = came_to Came.Failed Case.Failed store e (refl, sym (kept used store fits))
 
 -- What is gathered only grows, up to the most that is gathered.
 grows_on : (limit kind most : ℕ) (s : List ℕ) (at : ℕ) (bytes : List ℕ) (a : Answer) → length bytes ≤ most → read_at limit s at ≡ a

@@ -1,14 +1,14 @@
 -- Document 01, 'The two programs': what a program gathers from its records.
 -- "Records are judged in turn, each by the reader, then 8 for the other kind, then 1 for more than that".
-use Rattle.std.specs.Prelude.{ℕ, ◌+◌, ◌≡◌, List, [], ◌∷◌, ◌++◌, not, length, take, ltb, eqb}
+use Rattle.std.specs.Prelude.{ℕ, ◌+◌, ◌≡◌, List, [], ◌∷◌, ◌++◌, not, length, take, ltb, eqb, Result, Ok, Err}
 use Rattle.refusals.specs.Number.{number_of}
 use Rattle.refusals.specs.First.{check, first, by_verdict}
 use Rattle.putting.specs.Overlaid.{overlaid}
 use Rattle.records.specs.Record.{Answer, whole, end, refused, read_at, body_of}
-use Rattle.gather.specs.declared.Got.{Got}
-use Rattle.gather.specs.declared.Got.TheVariants as Came
 use Rattle.gather.specs.declared.Step.{Step}
 use Rattle.gather.specs.declared.Step.TheVariants as Case
+use Rattle.gather.specs.declared.Stop.{Stop}
+use Rattle.gather.specs.declared.Stop.TheVariants as Why
 
 -- where the gathering stands: these bytes so far; the records ended, with these bytes; a refusal of that number, after these bytes; a read
 -- failed, after these bytes
@@ -49,16 +49,14 @@ next_read limit kind most (window bytes) = next limit kind most bytes 0
 next_read limit kind most failure = go_on failed
 
 -- what was read, by what reading into the buffer came to
-abbrev pub read_of : Got → (buffer : List ℕ) → RecordRead
-read_of (Came.Bytes n) buffer = window (take n buffer)
-read_of (Came.End n) buffer = window (take n buffer)
-read_of Came.Failed buffer = failure
+abbrev pub read_of : {E : Type 0} → Result ℕ E → (buffer : List ℕ) → RecordRead
+read_of (Ok n) buffer = window (take n buffer)
+read_of (Err e) buffer = failure
 
 -- how many bytes were read
-abbrev pub count_of : Got → ℕ
-count_of (Came.Bytes n) = n
-count_of (Came.End n) = n
-count_of Came.Failed = 0
+abbrev pub count_of : {E : Type 0} → Result ℕ E → ℕ
+count_of (Ok n) = n
+count_of (Err e) = 0
 
 -- all bytes that are gathered
 abbrev pub bytes_in : Gathered → List ℕ
@@ -81,12 +79,12 @@ turn_in (stop number bytes) = refusal number
 turn_in (failed bytes) = input_failed
 
 -- the document's number for each case of the code's answer
-abbrev pub turn_of : Step → Turn
-turn_of (Case.More n) = so_far n
-turn_of (Case.Done n) = in_all n
-turn_of (Case.Refused why) = refusal (number_of why)
-turn_of Case.Failed = input_failed
+abbrev pub turn_of : Result Step Stop → Turn
+turn_of (Ok (Case.More n)) = so_far n
+turn_of (Ok (Case.Done n)) = in_all n
+turn_of (Err (Why.Refused why)) = refusal (number_of why)
+turn_of (Err Why.Failed) = input_failed
 
 -- where the gathering stands so: the step says it, and the store holds all bytes from its start on
-abbrev pub Shows : Gathered → (entry : List ℕ) → Step → (exit : List ℕ) → Type 0
+abbrev pub Shows : Gathered → (entry : List ℕ) → Result Step Stop → (exit : List ℕ) → Type 0
 Shows g entry step exit = (turn_of step ≡ turn_in g) × (exit ≡ overlaid 0 (bytes_in g) entry)

@@ -1,71 +1,79 @@
 // What the two programs do with each record of their input.
 #![tactic(auto)]
 
-ghost use Rattle.std.specs.Prelude.{◌≤◌, length, take};
+ghost use Rattle.std.specs.Prelude.{◌≡◌, ◌≤◌, length, take};
 ghost use Rattle.records.specs.Record.{body_limit};
 ghost use Rattle.gather.specs.Gather.{more, next, next_read, read_of, count_of, Shows};
+ghost use Rattle.gather.specs.declared.Stop.TheVariants as Why;
 
-use records::Found;
-use refusals::Refusal;
+use refusals::{Refusal, Refused};
+use std::io;
 
-// What reading comes to.
-#[derive(Clone, Copy)]
-pub enum Got {
-    // So many bytes.
-    Bytes(usize),
-    // The input ended, after so many.
-    End(usize),
-    // A read failed.
-    Failed,
-}
-
-// What judging a record comes to.
-#[derive(Clone, Copy)]
+// Where a record leaves the gathering.
+#[derive(Clone, Copy, Debug, PartialEq, Eq)]
 pub enum Step {
     // So many bytes are gathered now.
     More(usize),
     // The records ended, with so many gathered.
     Done(usize),
+}
+
+// Why no more is gathered.
+#[derive(Clone, Copy, Debug, PartialEq, Eq)]
+pub enum Stop {
     Refused(Refusal),
     // A read failed.
     Failed,
 }
 
-// Judges the record in a window of the input, and puts its body into the store, of which so many bytes are gathered.
-fn judge_window(window: &[u8], kind: usize, store: &mut [u8], used: usize) -> Step
-    requires { used ≤ length store.old }
-    ensures { Shows (next body_limit kind (length store.old) window.now 0 (more (take used store.old))) store.old result store.new }
-{
-    match records::read(window, 0) {
-        Found::End => Step::Done(used),
-        Found::Refused(why, _) => Step::Refused(why),
-        Found::Whole {
-            kind: k,
-            start,
-            len,
-            next: _,
-        } => {
-            let left = store.len() - used;
-            if k != kind {
-                return Step::Refused(Refusal::RecordKind);
-            }
-            if left < len {
-                return Step::Refused(Refusal::TooMuch);
-            }
-            putting::put(records::body(window, start, len), store, used);
-            Step::More(used + len)
-        }
+impl From<Refused> for Stop {
+    ghost from_gives = { λ refused r. r ≡ Why.Refused refused.0 };
+
+    fn from(refused: Refused) -> Stop {
+        Stop::Refused(refused.0)
     }
 }
 
-// Judges what reading the window of a record into the buffer came to.
-pub fn judge(got: Got, buffer: &[u8], kind: usize, store: &mut [u8], used: usize) -> Step
-    requires { (count_of got ≤ length buffer.now) × (used ≤ length store.old) }
-    ensures { Shows (next_read body_limit kind (length store.old) (read_of got buffer.now) (more (take used store.old))) store.old result store.new }
-{
-    match got {
-        Got::Bytes(n) => judge_window(&buffer[..n], kind, store, used),
-        Got::End(n) => judge_window(&buffer[..n], kind, store, used),
-        Got::Failed => Step::Failed,
+impl From<io::Error> for Stop {
+    ghost from_gives = { λ _ r. r ≡ Why.Failed };
+
+    fn from(_error: io::Error) -> Stop {
+        Stop::Failed
     }
+}
+
+// Judges the record in a window of the input, and puts its body into the store, of which so many bytes are gathered.
+fn judge_window(window: &[u8], kind: usize, store: &mut [u8], used: usize) -> Result<Step, Stop>
+    requires { used ≤ length store.old }
+    ensures { Shows (next body_limit kind (length store.old) window.now 0 (more (take used store.old))) store.old result store.new }
+{
+    let Some(record) = records::read(window, 0)? else {
+        return Ok(Step::Done(used));
+    };
+    if record.kind.number() != kind {
+        return Err(Stop::Refused(Refusal::RecordKind));
+    }
+    let left = store.len() - used;
+    if left < record.len {
+        return Err(Stop::Refused(Refusal::TooMuch));
+    }
+    putting::put(records::body(window, record.start, record.len), store, used);
+    Ok(Step::More(used + record.len))
+}
+
+// Judges what reading the window of a record into the buffer came to: so many bytes of it, or a failed read. (The kind is a number, as `gathered` of
+// `input` takes it, which docs/PROMISES.md names.)
+#[tactic(auto, using(crate::proofs::Judged::kept))]
+pub fn judge(
+    read: io::Result<usize>,
+    buffer: &[u8],
+    kind: usize,
+    store: &mut [u8],
+    used: usize,
+) -> Result<Step, Stop>
+    requires { (count_of read ≤ length buffer.now) × (used ≤ length store.old) }
+    ensures { Shows (next_read body_limit kind (length store.old) (read_of read buffer.now) (more (take used store.old))) store.old result store.new }
+{
+    let n = read?;
+    judge_window(&buffer[..n], kind, store, used)
 }

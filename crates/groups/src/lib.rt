@@ -3,7 +3,6 @@
 
 ghost use Rattle.std.specs.Prelude.{◌≡◌, true, List, ℕ, ◌+◌, ◌%◌, ◌^◌, ◌<◌, ◌≤◌, length, get_or, drop};
 ghost use Rattle.block.specs.Block.{vectors_in};
-ghost use Rattle.transmit.specs.Steps.{idle_coded, low_power_coded};
 ghost use Rattle.control_bytes.specs.Control.{Low};
 ghost use Rattle.groups.specs.Four.{octets_at, Codes, CodedAlike, AllAre, controls_at, group_of, SentFour};
 
@@ -12,7 +11,8 @@ use encoding::{encode, lanes_at};
 use line::Block;
 use transmit::{Sender, Step, idles, low_power, send_after, send_one};
 
-// Four vectors sent: their blocks as they go on the line, and where sending then stands.
+// Four vectors sent: their blocks as they go on the line, and where sending then stands. Not an array of blocks: the line takes each by
+// itself, shifted by its own number of bits.
 #[derive(Clone, Copy)]
 pub struct Group {
     pub a: Block,
@@ -27,7 +27,7 @@ fn octets_at(bytes: &[u8], at: usize) -> u64
     requires { at + 10 ≤ length bytes.now }
     ensures { result ≡ octets_at bytes.now at }
 {
-    lanes_at(bytes, at + 1) as u64 + lanes_at(bytes, at + 6) as u64 * 4294967296
+    u64::from(lanes_at(bytes, at + 1)) + u64::from(lanes_at(bytes, at + 6)) * 4294967296
 }
 
 // The vector at a place of the vector bytes, encoded: one without control characters.
@@ -42,44 +42,23 @@ fn data_at(bytes: &[u8], at: usize) -> Coded
     }
 }
 
-// The same of any. What encoding answers is handed on field by field, and asked for at two places: so the compiler keeps it out of the way of
-// data, which is part of every loop that takes it.
+// The same of any vector.
 fn vector_at(edition: Edition, bytes: &[u8], at: usize) -> Coded
     requires { (at + 10 ≤ length bytes.now) × (get_or bytes.now at 0 ≤ 15) × (get_or bytes.now (at + 5) 0 ≤ 15) }
     ensures { Codes edition bytes.now at result }
 {
     let c0 = bytes[at];
     let c1 = bytes[at + 5];
-    if c0 == 0 {
-        if c1 == 0 {
-            return data_at(bytes, at);
-        }
-        let e = encode(
+    if c0 == 0 && c1 == 0 {
+        data_at(bytes, at)
+    } else {
+        encode(
             edition,
             c0,
             lanes_at(bytes, at + 1),
             c1,
             lanes_at(bytes, at + 6),
-        );
-        let kind = e.kind;
-        return Coded {
-            kind: kind,
-            header: e.header,
-            payload: e.payload,
-        };
-    }
-    let e = encode(
-        edition,
-        c0,
-        lanes_at(bytes, at + 1),
-        c1,
-        lanes_at(bytes, at + 6),
-    );
-    let kind = e.kind;
-    Coded {
-        kind: kind,
-        header: e.header,
-        payload: e.payload,
+        )
     }
 }
 
@@ -87,17 +66,12 @@ fn vector_at(edition: Edition, bytes: &[u8], at: usize) -> Coded
 fn group_of(first: Step, second: Step, third: Step, fourth: Step) -> Group
     ensures { result ≡ group_of first second third fourth }
 {
-    let a = first.block;
-    let b = second.block;
-    let c = third.block;
-    let d = fourth.block;
-    let next = fourth.next;
     Group {
-        a: a,
-        b: b,
-        c: c,
-        d: d,
-        next: next,
+        a: first.block,
+        b: second.block,
+        c: third.block,
+        d: fourth.block,
+        next: fourth.next,
     }
 }
 
@@ -107,12 +81,9 @@ fn send_each(edition: Edition, bytes: &[u8], at: usize, s: Sender) -> Group
     ensures { SentFour edition s (vectors_in 4 (drop at bytes.now)) result }
 {
     let first = send_one(vector_at(edition, bytes, at), s);
-    let after_a = first.next;
-    let second = send_one(vector_at(edition, bytes, at + 10), after_a);
-    let after_b = second.next;
-    let third = send_one(vector_at(edition, bytes, at + 20), after_b);
-    let after_c = third.next;
-    let fourth = send_one(vector_at(edition, bytes, at + 30), after_c);
+    let second = send_one(vector_at(edition, bytes, at + 10), first.next);
+    let third = send_one(vector_at(edition, bytes, at + 20), second.next);
+    let fourth = send_one(vector_at(edition, bytes, at + 30), third.next);
     group_of(first, second, third, fourth)
 }
 
@@ -128,27 +99,16 @@ fn send_data(bytes: &[u8], at: usize, s: Sender) -> Group
     group_of(first, second, third, fourth)
 }
 
-// The same of four that are idles.
-fn send_idles(s: Sender) -> Group
+// The same of four that are all encoded as e. A part of its caller, where e is known: what the diagram does is then known too.
+#[inline(always)]
+fn send_alike(e: Coded, s: Sender) -> Group
     requires { (s.history < 2 ^ 58) × (s.replaced ≤ 1000000) }
-    ensures { (ed : Edition) (bytes : List ℕ) (at : ℕ) → CodedAlike ed bytes at idle_coded → SentFour ed s (vectors_in 4 (drop at bytes)) result }
+    ensures { (ed : Edition) (bytes : List ℕ) (at : ℕ) → CodedAlike ed bytes at e → SentFour ed s (vectors_in 4 (drop at bytes)) result }
 {
-    let first = send_one(idles(), s);
-    let second = send_after(idles(), first);
-    let third = send_after(idles(), second);
-    let fourth = send_after(idles(), third);
-    group_of(first, second, third, fourth)
-}
-
-// The same of four that are low power idles.
-fn send_low_power(s: Sender) -> Group
-    requires { (s.history < 2 ^ 58) × (s.replaced ≤ 1000000) }
-    ensures { (ed : Edition) (bytes : List ℕ) (at : ℕ) → CodedAlike ed bytes at low_power_coded → SentFour ed s (vectors_in 4 (drop at bytes)) result }
-{
-    let first = send_one(low_power(), s);
-    let second = send_after(low_power(), first);
-    let third = send_after(low_power(), second);
-    let fourth = send_after(low_power(), third);
+    let first = send_one(e, s);
+    let second = send_after(e, first);
+    let third = send_after(e, second);
+    let fourth = send_after(e, third);
     group_of(first, second, third, fourth)
 }
 
@@ -157,14 +117,10 @@ fn all_are(bytes: &[u8], at: usize, octets: u64) -> bool
     requires { at + 40 ≤ length bytes.now }
     ensures { result ≡ true → AllAre bytes.now at octets }
 {
-    if octets_at(bytes, at) == octets {
-        if octets_at(bytes, at + 10) == octets {
-            if octets_at(bytes, at + 20) == octets {
-                return octets_at(bytes, at + 30) == octets;
-            }
-        }
-    }
-    false
+    octets_at(bytes, at) == octets
+        && octets_at(bytes, at + 10) == octets
+        && octets_at(bytes, at + 20) == octets
+        && octets_at(bytes, at + 30) == octets
 }
 
 // The control bytes of four vectors, added up: 0 where all characters are data, 120 where none is.
@@ -193,15 +149,10 @@ pub fn send_four(edition: Edition, bytes: &[u8], at: usize, s: Sender) -> Group
     }
     if controls == 120 {
         if all_are(bytes, at, 0x0707_0707_0707_0707) {
-            return send_idles(s);
+            return send_alike(idles(), s);
         }
-        match edition {
-            Edition::Old => {}
-            Edition::New => {
-                if all_are(bytes, at, 0x0606_0606_0606_0606) {
-                    return send_low_power(s);
-                }
-            }
+        if edition == Edition::New && all_are(bytes, at, 0x0606_0606_0606_0606) {
+            return send_alike(low_power(), s);
         }
     }
     send_each(edition, bytes, at, s)

@@ -7,13 +7,15 @@ use native.Mathlib.Omega.{arith}
 use lib.ListN.{length, take, drop, replicate}
 use lib.Dec.{ltb}
 use borrow.Author.Tests.{ltb-false}
+use Rattle.std.specs.Prelude.{Result, Ok, Err}
+use Rattle.refusals.specs.Refused.{by_result}
+use Rattle.refusals.specs.declared.Refused.{Refused}
 use Rattle.refusals.specs.First.{Check, check, Verdict, accepted, refused, first, by_verdict}
 use Rattle.block.specs.declared.Edition.{Edition}
 use Rattle.block.specs.Block.{edition_of}
 use Rattle.receiving.specs.Answer.{ReceiveAnswer, received, receive_checks, summary_of, receive_answer, receive_room}
 use Rattle.receiving.specs.Answer as Answer
 use Rattle.receiving.specs.declared.Summary.{Summary}
-use Rattle.receiving.specs.declared.Received.{Received}
 use Rattle.counters.specs.Counters.{counters_after}
 use Rattle.counters.specs.declared.Counters.{Counters}
 use Rattle.lent_words.specs.Words.{result_of, word_bytes, too_short, summary_with}
@@ -23,13 +25,18 @@ use Rattle.lent_words.proofs.Laws.{first_after, place_zero, summary_long}
 use Rattle.lent_words.proofs.Applied.{short_of, never, short_result}
 
 -- what a match finds of an answer has its values
-pub as_found : (w : ReceiveAnswer) {x y : Received} → x ≡ y → Answer.answer_of x ≡ w → Answer.answer_of y ≡ w
+pub as_found : (w : ReceiveAnswer) {x y : Result Summary Refused} → x ≡ y → Answer.answer_of x ≡ w → Answer.answer_of y ≡ w
 as_found w e q = ap Answer.answer_of (sym e) ∙ q
 
 -- an answer tells the verdict
 abbrev pub verdict_received : ReceiveAnswer → Verdict
 verdict_received (received s) = accepted
 verdict_received (Answer.refused number place) = refused number place
+
+-- what a call into no room is refused for, or else 4
+pub or_four_is : (r : Result Summary Refused) → by_result (λ s. 4) (λ number place. number + 256 * place) r ≡ short_of (verdict_received (Answer.answer_of r))
+or_four_is (Ok s) = refl
+or_four_is (Err w) = refl
 
 told : (v : Verdict) (ed : Edition) (line : List ℕ) → verdict_received (by_verdict v (received (summary_of ed line)) Answer.refused) ≡ v
 told accepted ed line = refl

@@ -1,5 +1,5 @@
 -- Sending through C, case by case. Assumes nothing.
-use Prim.Native.Nat.{ℕ, ◌*◌, ◌/◌, ◌%◌, ◌^◌, ◌≤◌, ◌<◌}
+use Prim.Native.Nat.{ℕ, ◌+◌, ◌*◌, ◌/◌, ◌%◌, ◌^◌, ◌≤◌, ◌<◌}
 use mathlib.Core.Path.{◌≡◌, refl, sym, ap, ◌∙◌}
 use mathlib.Core.Bool.{Bool, true, false, not}
 use mathlib.Core.List.{List, [], ◌∷◌, ◌++◌}
@@ -7,16 +7,25 @@ use native.Mathlib.Omega.{arith}
 use lib.ListN.{length, take, drop}
 use lib.Dec.{ltb, eqb}
 use borrow.Author.Tests.{lt-ltb, le-ltb, ltb-false, eqb-true}
+use Rattle.std.specs.Prelude.{Result, Ok, Err}
+use Rattle.refusals.specs.Refused.{by_result}
+use Rattle.refusals.specs.declared.Refused.{Refused}
 use Rattle.refusals.specs.First.{Check, check, check_at, Verdict, accepted, refused, first, by_verdict}
 use Rattle.refusals.proofs.Laws.{passed}
 use Rattle.control_bytes.specs.Control.{high_control}
 use Rattle.sending.specs.Answer.{SendAnswer, send_checks, send_answer, send_room}
 use Rattle.sending.specs.Answer as Answer
+use Rattle.sending.specs.declared.Sending.{Sending}
 use Rattle.sending.proofs.Verdicts.{verdict_of_send, verdict_told, place_small}
 use Rattle.lent_words.specs.Words.{result_of, one_more_after, word_bytes, too_short}
 use Rattle.holzmotte.specs.Boundary.{send_verdict, send_words, send_result, send_line, send_summary, SendsThroughC}
 use Rattle.lent_words.proofs.Laws.{long_first, kept, summary_short, summary_long}
 use Rattle.lent_words.proofs.Applied.{short_of, never, short_result}
+
+-- what a call into no room is refused for, or else 4
+pub or_four_is : (r : Result Sending Refused) → by_result (λ s. 4) (λ number place. number + 256 * place) r ≡ short_of (verdict_of_send (Answer.answer_of r))
+or_four_is (Ok s) = refl
+or_four_is (Err w) = refl
 
 -- no room, where none is needed or where some is: a control byte is looked at where some is
 no_room : (b e : Bool) (h : ℕ) → (b ≡ false → e ≡ false) → short_of (first (check 4 b ∷ check_at 5 h e ∷ [])) ≡ 4

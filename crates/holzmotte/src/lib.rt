@@ -1,29 +1,39 @@
 // The C boundary: byte slices and 64-bit numbers. include/holzmotte.h says what each pointer is.
 #![tactic(auto)]
 
-ghost use Rattle.std.specs.Prelude.{◌≡◌, ℕ, ◌<◌, length, true};
+ghost use Rattle.std.specs.Prelude.{◌≡◌, ℕ, ◌+◌, ◌*◌, ◌^◌, ◌<◌, length, true};
+ghost use Rattle.std.specs.Result.{ForErr};
+ghost use Rattle.refusals.specs.Refused.{by_result};
 ghost use Rattle.slices.specs.Slices.{short_slice};
 ghost use Rattle.holzmotte.specs.Boundary.{send_result, SendsThroughC, receive_result, ReceivesThroughC};
 
 use counters::receive_by_value;
 use lent_words::{put_words, refusal};
-use receiving::Received;
 use reception::receive;
-use sending::{Sent, send};
+use refusals::Refused;
+use sending::send;
 use slices::{clear, load_counters, put_summary, short_slice, store_counters};
+
+// What a call into no room is refused for, or else 4.
+fn or_four<T: Copy>(answer: Result<T, Refused>) -> u64
+    requires { ForErr answer (λ r. r.1 < 2 ^ 56) }
+    ensures { result ≡ by_result (λ _. 4) (λ number place. number + 256 * place) answer }
+{
+    match answer {
+        Ok(_) => 4,
+        Err(refused) => refusal(refused),
+    }
+}
 
 // The result where the summary is too short: what sending into no room is refused for, or else 4.
 fn send_short(edition: u64, vectors: &[u8], start: u64) -> u64
     ensures { (room summary : ℕ) → summary < 24 → result ≡ send_result edition vectors.now start room summary }
 {
-    let mut none = [0u8; 0];
-    match send(edition, vectors, start, &mut none) {
-        Sent::Done(_) => 4,
-        Sent::Refused(why, place) => refusal(why, place),
-    }
+    or_four(send(edition, vectors, start, &mut []))
 }
 
-// Sends a list of vectors: the line's bytes go to the start of the room, three words to the summary.
+// Sends a list of vectors: the line's bytes go to the start of the room, three words to the summary. A refusal writes its zeros there too, which `?`
+// would pass by: so both cases stand in a match, here and in receiving.
 pub fn holzmotte_send(
     edition: u64,
     vectors: &[u8],
@@ -37,13 +47,13 @@ pub fn holzmotte_send(
         return send_short(edition, vectors, start);
     }
     match send(edition, vectors, start, line) {
-        Sent::Done(s) => {
+        Ok(s) => {
             put_words(summary, &[s.state, s.diagram, s.replaced]);
             0
         }
-        Sent::Refused(why, place) => {
+        Err(refused) => {
             put_words(summary, &[0; 3]);
-            refusal(why, place)
+            refusal(refused)
         }
     }
 }
@@ -52,11 +62,7 @@ pub fn holzmotte_send(
 fn receive_short(edition: u64, line: &[u8]) -> u64
     ensures { (room summary counters : ℕ) → short_slice summary counters ≡ true → result ≡ receive_result edition (length line.now) room summary counters }
 {
-    let mut none = [0u8; 0];
-    match receive(edition, line, &mut none) {
-        Received::Done(_) => 4,
-        Received::Refused(why, place) => refusal(why, place),
-    }
+    or_four(receive(edition, line, &mut []))
 }
 
 // Receives a line: a vector for each tested block goes to the room, twelve words to the summary, and what was counted is added to the counters.
@@ -74,17 +80,15 @@ pub fn holzmotte_receive(
         return receive_short(edition, line);
     }
     let r = receive_by_value(edition, line, vectors, load_counters(counters));
-    let answer = r.answer;
-    let after = r.counters;
-    match answer {
-        Received::Done(s) => {
+    match r.answer {
+        Ok(s) => {
             put_summary(summary, s);
-            store_counters(counters, after);
+            store_counters(counters, r.counters);
             0
         }
-        Received::Refused(why, place) => {
+        Err(refused) => {
             clear(summary);
-            refusal(why, place)
+            refusal(refused)
         }
     }
 }

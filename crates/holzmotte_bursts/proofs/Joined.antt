@@ -14,7 +14,7 @@ use Rattle.receiving.specs.Receive.{judged_alone}
 use Rattle.receiving.specs.Parts.{bytes_of}
 use Rattle.receiving.specs.Answer.{ReceiveAnswer, received, summary_of, answer_of}
 use Rattle.receiving.specs.declared.Summary.{Summary}
-use Rattle.receiving.specs.declared.Received.TheVariants.{Done}
+use Rattle.std.specs.Prelude.{Ok}
 use Rattle.counters.specs.Counters.{updated}
 use Rattle.lent_words.specs.Words.{result_of, word_bytes, summary_with}
 use Rattle.slices.specs.Slices.{counters_in, counters_with, receive_length, receive_words}
@@ -76,7 +76,7 @@ data Step (state counters taken state' vectors' counters' : List ℕ) : Type 0 w
 
 -- the reply of a call that comes to this
 abbrev replied : State → Summary → Added → Reply
-replied s sum a = record { state = s; answer = Done sum; added = a }
+replied s sum a = record { state = s; answer = Ok sum; added = a }
 
 module _ (state line vectors summary counters : List ℕ) where
   abbrev s : State
@@ -295,7 +295,7 @@ module _ (edition : ℕ) (state counters : List ℕ) (ms : List MadeThroughC) (w
       × (plus_added (ByValue.added_after_calls w.calls) (close_added (state_in S)) ≡ added_in said)
   unfolding in_bursts
   joined =
-      Calls.whole edition (line_through_c ms) _ said in_bursts room room' (Done one)
+      Calls.whole edition (line_through_c ms) _ said in_bursts room room' (Ok one)
       (Success.answer_is edition (line_through_c ms) room sum counters room' sum' counters'' q, Success.room_is edition (line_through_c ms) room sum counters room' sum' counters'' q)
       (Success.room_lent edition (line_through_c ms) room sum counters room' sum' counters'' q)
 

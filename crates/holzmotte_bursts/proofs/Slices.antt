@@ -8,12 +8,13 @@ use native.Mathlib.Omega.{arith}
 use lib.ListN.{length, drop, replicate}
 use lib.Seq.{take-length, drop-length}
 use borrow.Rule.Slice.PartMut.{mid_of, put_mid, put_same}
+use Rattle.std.specs.Prelude.{Result}
+use Rattle.refusals.specs.declared.Refused.{Refused}
 use Rattle.refusals.specs.First.{Verdict, accepted, refused, by_verdict}
 use Rattle.receiving.specs.Receive.{judged_alone}
 use Rattle.receiving.specs.Answer.{ReceiveAnswer, received, answer_of}
 use Rattle.receiving.specs.Answer as Answer
 use Rattle.receiving.specs.declared.Summary.{Summary}
-use Rattle.receiving.specs.declared.Received.{Received}
 use Rattle.lent_words.specs.Words.{word_bytes, summary_with, too_short}
 use Rattle.slices.specs.Slices.{counters_in, counters_with, receive_length, short_slice, receive_words}
 use Rattle.counters.specs.Counters.{updated}
@@ -199,12 +200,12 @@ module _ (closing : Bool) (state line vectors summary counters : List ℕ) (s : 
 -- ---- a reply, by the answer that a match finds
 
 module _ (next : State) (added : Added) (state summary counters : List ℕ) (z : ℕ) (state' summary' counters' : List ℕ) where
-  pub found_left : (a b : Received) → a ≡ b → LeftBy (answer_of b) next added state summary counters z state' summary' counters'
+  pub found_left : (a b : Result Summary Refused) → a ≡ b → LeftBy (answer_of b) next added state summary counters z state' summary' counters'
       → LeftBy (answer_of a) next added state summary counters z state' summary' counters'
-  found_left a b e l = subst (λ (x : Received). LeftBy (answer_of x) next added state summary counters z state' summary' counters') (sym e) l
+  found_left a b e l = subst (λ (x : Result Summary Refused). LeftBy (answer_of x) next added state summary counters z state' summary' counters') (sym e) l
 
-pub found_fits : (a b : Received) (summary counters : ℕ) → a ≡ b → AnswerFits (answer_of a) summary counters → AnswerFits (answer_of b) summary counters
-found_fits a b summary counters e p = subst (λ (x : Received). AnswerFits (answer_of x) summary counters) e p
+pub found_fits : (a b : Result Summary Refused) (summary counters : ℕ) → a ≡ b → AnswerFits (answer_of a) summary counters → AnswerFits (answer_of b) summary counters
+found_fits a b summary counters e p = subst (λ (x : Result Summary Refused). AnswerFits (answer_of x) summary counters) e p
 
 -- the words of an answer, as they were put
 pub put_is : (s : Summary) (summary summary' : List ℕ) → 96 ≤ length summary → summary' ≡ word_bytes 8 (receive_words (received s)) ++ drop 96 summary

@@ -7,6 +7,11 @@ use native.Mathlib.Omega.{arith}
 use lib.ListN.{length, take, drop}
 use lib.Dec.{ltb, eqb}
 use borrow.Author.Tests.{lt-ltb}
+use denote.Enum.Bare.{sameb}
+use Rattle.refusals.specs.contracts.Refusal.{the_type}
+use Rattle.refusals.specs.declared.Refusal.{Refusal}
+use Rattle.refusals.specs.declared.Refusal.TheVariants.{TooMuch, NotGroups, StartState, Room, ControlByte, Cut, LongBody, RecordKind, Closed, BadState, Range, NoSuchVector, UnknownEdition}
+use Rattle.refusals.specs.Number.{number_of}
 use Rattle.refusals.specs.First.{check, check_at, Verdict, accepted, refused, first, by_verdict}
 use Rattle.control_bytes.specs.Control.{high_control}
 use Rattle.lent_words.specs.Words.{result_of, one_more_after, word_bytes, too_short}
@@ -46,6 +51,22 @@ short_answer bytes list summary answer e l =
     ∙ sym (rw (lt-ltb summary (8 * 1) l)
     (short_checks (ltb 1000000 (length bytes)) (not (eqb (length bytes % 40) 0)) (ltb (high_control bytes) (length bytes)) (ltb 0 (12 * frames_number bytes))
     (ltb list (12 * frames_number bytes)) (high_control bytes) (frames_number bytes)))
+
+-- a refusal 4 is that of the summary
+pub by_kind : (k : Refusal) (p : ℕ) → short_of (refused (number_of k) p) ≡ cond (sameb the_type k Room) 4 (number_of k + 256 * p)
+by_kind TooMuch p = let z : (1 + 256 * p) % 256 ≡ 1 = omega arith in rw z
+by_kind NotGroups p = let z : (2 + 256 * p) % 256 ≡ 2 = omega arith in rw z
+by_kind StartState p = let z : (3 + 256 * p) % 256 ≡ 3 = omega arith in rw z
+by_kind Room p = let z : (4 + 256 * p) % 256 ≡ 4 = omega arith in rw z
+by_kind ControlByte p = let z : (5 + 256 * p) % 256 ≡ 5 = omega arith in rw z
+by_kind Cut p = let z : (6 + 256 * p) % 256 ≡ 6 = omega arith in rw z
+by_kind LongBody p = let z : (7 + 256 * p) % 256 ≡ 7 = omega arith in rw z
+by_kind RecordKind p = let z : (8 + 256 * p) % 256 ≡ 8 = omega arith in rw z
+by_kind Closed p = let z : (9 + 256 * p) % 256 ≡ 9 = omega arith in rw z
+by_kind BadState p = let z : (10 + 256 * p) % 256 ≡ 10 = omega arith in rw z
+by_kind Range p = let z : (11 + 256 * p) % 256 ≡ 11 = omega arith in rw z
+by_kind NoSuchVector p = let z : (12 + 256 * p) % 256 ≡ 12 = omega arith in rw z
+by_kind UnknownEdition p = let z : (13 + 256 * p) % 256 ≡ 13 = omega arith in rw z
 
 -- a refusal's place fits a result
 pub small : (bytes : List ℕ) (list number place : ℕ) → Answer.refused number place ≡ list_answer bytes list → place < 2 ^ 56

@@ -1,30 +1,24 @@
 // The C boundary of frames: byte slices and 64-bit numbers. include/holzmotte.h says what each pointer is.
 #![tactic(auto)]
 
-ghost use Rattle.std.specs.Prelude.{◌≡◌, cond, ℕ, ◌%◌, ◌<◌, eqb};
+ghost use Rattle.std.specs.Prelude.{◌≡◌, ℕ, ◌<◌};
 ghost use Rattle.holzmotte_frames.specs.Boundary.{frames_result, ListsThroughC};
 
-use frame_list::Listed;
 use lent_words::{put_words, refusal};
+use refusals::Refusal;
 
-// A result whose refusal 4 is that of the summary, which has no place.
-fn of_summary(res: u64) -> u64
-    ensures { result ≡ cond (eqb (res % 256) 4) 4 res }
-{
-    if res % 256 == 4 {
-        return 4;
-    }
-    res
-}
-
-// The result where the summary is too short: what listing into no room is refused for, or else 4.
+// The result where the summary is too short: what listing into no room is refused for, or else 4. A refusal 4 has no place then.
 fn frames_short(vectors: &[u8]) -> u64
     ensures { (list summary : ℕ) → summary < 8 → result ≡ frames_result vectors.now list summary }
 {
-    let mut none = [0u8; 0];
-    match frame_list::list(vectors, &mut none) {
-        Listed::Done(_) => 4,
-        Listed::Refused(why, place) => of_summary(refusal(why, place)),
+    match frame_list::list(vectors, &mut []) {
+        Ok(_) => 4,
+        Err(refused) => {
+            if refused.0 == Refusal::Room {
+                return 4;
+            }
+            refusal(refused)
+        }
     }
 }
 
@@ -36,13 +30,13 @@ pub fn holzmotte_frames(vectors: &[u8], list: &mut [u8], summary: &mut [u8]) -> 
         return frames_short(vectors);
     }
     match frame_list::list(vectors, list) {
-        Listed::Done(n) => {
+        Ok(n) => {
             put_words(summary, &[n as u64]);
             0
         }
-        Listed::Refused(why, place) => {
+        Err(refused) => {
             put_words(summary, &[0; 1]);
-            refusal(why, place)
+            refusal(refused)
         }
     }
 }

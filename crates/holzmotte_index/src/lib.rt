@@ -3,9 +3,9 @@
 
 ghost use Rattle.holzmotte_index.specs.Boundary.{IndexesThroughC, CountsThroughC, FindsThroughC};
 
-use index::{Built, build};
-use index_count::{Counted, count};
-use index_search::{Found, find_error};
+use index::build;
+use index_count::count;
+use index_search::find_error;
 use lent_words::{refusal, told};
 
 // Builds the index of a list of vectors, which fills the lent slice.
@@ -13,8 +13,8 @@ pub fn holzmotte_index(vectors: &[u8], index: &mut [u8]) -> u64
     ensures { IndexesThroughC vectors.now index.old result index.new }
 {
     match build(vectors, index) {
-        Built::Done => 0,
-        Built::Refused(why, place) => refusal(why, place),
+        Ok(()) => 0,
+        Err(refused) => refusal(refused),
     }
 }
 
@@ -23,10 +23,10 @@ pub fn holzmotte_count(vectors: &[u8], index: &[u8], a: u64, b: u64, summary: &m
     ensures { CountsThroughC vectors.now index.now a b summary.old result summary.new }
 {
     match count(vectors, index, a, b) {
-        Counted::Counts(errors, starts) => told(summary, &[errors, starts]),
-        Counted::Refused(why, place) => {
+        Ok(tally) => told(summary, &[tally.errors, tally.starts]),
+        Err(refused) => {
             told(summary, &[0; 2]);
-            refusal(why, place)
+            refusal(refused)
         }
     }
 }
@@ -36,10 +36,10 @@ pub fn holzmotte_find_error(vectors: &[u8], index: &[u8], n: u64, summary: &mut 
     ensures { FindsThroughC vectors.now index.now n summary.old result summary.new }
 {
     match find_error(vectors, index, n) {
-        Found::At(vector, read) => told(summary, &[vector as u64, read as u64]),
-        Found::Refused(why, place) => {
+        Ok(place) => told(summary, &[place.vector as u64, place.read as u64]),
+        Err(refused) => {
             told(summary, &[0; 2]);
-            refusal(why, place)
+            refusal(refused)
         }
     }
 }

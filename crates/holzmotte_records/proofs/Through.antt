@@ -8,8 +8,10 @@ use lib.ListN.{length, replicate}
 use lib.Dec.{leb}
 use Rattle.refusals.specs.First.{check, Verdict, accepted, refused, first, by_verdict}
 use Rattle.refusals.proofs.Laws.{first_append}
-use Rattle.records.specs.Record.{body_limit, read_checks, Answer, whole, end, read_at}
+use Rattle.std.specs.Prelude.{Option, Some, None}
+use Rattle.records.specs.Record.{body_limit, read_checks, Answer, whole, end, read_at, found}
 use Rattle.records.specs.Record as Record
+use Rattle.records.specs.declared.Record.{Record}
 use Rattle.record_writing.specs.Writing.{write_checks, WriteAnswer, wrote, unwritten, write_answer}
 use Rattle.lent_words.specs.Words.{result_of, too_short, summary_with}
 use Rattle.holzmotte_records.specs.Boundary.{reading_checks, reading_result, record_words, ReadsThroughC}
@@ -68,15 +70,21 @@ module _ (file : List ℕ) (place : ℕ) (summary : List ℕ) (r : ℕ) (summary
     g ∙ ap (λ (x : Answer). summary_with 5 (record_words x) summary) e,
   )
 
-  -- a record
-  pub reads_whole : (kind start len next : ℕ) → whole kind start len next ≡ read_at body_limit file place → r ≡ cond (too_short 8 5 (length summary)) 4 0
-      → summary' ≡ summary_with 5 (1 ∷ kind ∷ start ∷ len ∷ next ∷ []) summary → ReadsThroughC file place summary r summary'
-  reads_whole kind start len next e f g = by_answer (whole kind start len next) e (f ∙ short_result (too_short 8 5 (length summary))) g
+  -- what so many words answer, and what they leave
+  abbrev by_words : List ℕ → ℕ
+  by_words words = cond (too_short 8 (length words) (length summary)) 4 0
 
-  -- a plain end
-  pub reads_end : end ≡ read_at body_limit file place → r ≡ cond (too_short 8 5 (length summary)) 4 0
-      → summary' ≡ summary_with 5 (replicate 5 0) summary → ReadsThroughC file place summary r summary'
-  reads_end e f g = by_answer end e (f ∙ short_result (too_short 8 5 (length summary))) g
+  abbrev after_words : List ℕ → List ℕ
+  after_words words = summary_with (length words) words summary
+
+  -- a record or none, and its words
+  pub reads_found : (a : Option Record) (words : List ℕ) → found a ≡ read_at body_limit file place → words ≡ record_words (found a)
+      → r ≡ by_words words → summary' ≡ after_words words
+      → ReadsThroughC file place summary r summary'
+  reads_found (Some x) words e w f g =
+      by_answer (found (Some x)) e (f ∙ ap by_words w ∙ short_result (too_short 8 5 (length summary))) (g ∙ ap after_words w)
+  reads_found None words e w f g =
+      by_answer (found None) e (f ∙ ap by_words w ∙ short_result (too_short 8 5 (length summary))) (g ∙ ap after_words w)
 
   -- a refusal
   pub reads_refused : (number at : ℕ) → Record.refused number at ≡ read_at body_limit file place → number < 256 → r ≡ number + 256 * (at % 2 ^ 56)

@@ -16,9 +16,12 @@ use Rattle.block.specs.Block.{local_fault_vector, decoded, class_of, kind_in, is
 use Rattle.block.specs.Rows.{row_of}
 use Rattle.block.specs.declared.Edition.{Edition}
 use Rattle.block.specs.declared.Class.{Class}
-use Rattle.block.specs.declared.Class.TheVariants as Class
 use Rattle.block.specs.declared.Reason.TheVariants.{Header, BlockType}
 use Rattle.scrambler.specs.Scrambler.{descrambled, line_after}
+use Rattle.std.specs.Prelude.{Option, Some, None}
+use Rattle.std.specs.Option.{is_some}
+use Rattle.quick_decoding.specs.AtOnce.{DecodedAtOnce}
+use Rattle.quick_decoding.specs.declared.Decoded.{Decoded}
 use Rattle.carrying.specs.Carrying.{Takes}
 use Rattle.carrying.specs.declared.Taken.{Taken}
 use Rattle.carrying.proofs.Laws.{bits_none, takes_skip}
@@ -51,7 +54,7 @@ use Rattle.receiving.proofs.Runs.{run_behind}
 use Rattle.receiving.proofs.Counted.{free, one_header_lem, one_type, counted_is, one_more, out_init}
 use Rattle.receiving.proofs.Settle.{held_put, held_ten, settle_bytes, settle_handed, settle_state, settle_held}
 use Rattle.receiving.proofs.Turning.{feed_of, fill_run, turn_wait, moved, turn_block, held_fits, upshot_same}
-use Rattle.receiving.proofs.Stretching.{whole_block, whole_taken, carried_none, turns_more}
+use Rattle.receiving.proofs.Stretching.{block_with, whole_block, whole_taken, carried_none, turns_more}
 
 -- ---- a block held that was not tested in lock is answered as Local Fault, whichever it is
 
@@ -320,7 +323,7 @@ module _ (line room : List ℕ) (q : Progress) (u : Under line room q) (hq : Hun
       let have : length (held_bytes q.receiver.have q.receiver.state q.receiver.held (lets_end (tested_in holds))) ≡ 10 =
       ap (λ (b : Bool). length (held_bytes b q.receiver.state q.receiver.held (lets_end (tested_in holds)))) hq.have
       ∙ held_ten q.receiver.state q.receiver.held (lets_end (tested_in holds)) in
-      omega (arith, have, held_fits line room q u (whole_block q header payload) taken_is refl linked holds link_is held_is)
+      omega (arith, have, held_fits line room q u (whole_block q header payload) taken_is (block_with header payload) refl linked holds link_is held_is)
 
   module _ (v : Vector) (ev : vector_bytes v ≡ local_fault_vector) (room' : List ℕ) (er : room' ≡ take q.at room ++ (vector_bytes v ++ drop (q.at + 10) room)) where
     -- it is tested
@@ -333,7 +336,7 @@ module _ (line room : List ℕ) (q : Progress) (u : Under line room q) (hq : Hun
         let r = q.receiver in
         let put = held_put r.have r.state r.held (lets_end (tested_in holds)) room room' q.at q.handed q.handed Init v hq.have
         (sym (ap (λ (b : Bool). cond b (diagram_of r.state (kind_in r.held.class) (lets_end (tested_in holds))) Init) hq.off)) ev er (out_init q.handed (tested_in r.held)) in
-        turn_block line room q u (whole_block q header payload) taken_is refl linked holds link_is held_is Init (q.at + 10) counts room' put.0 put.1 put.2 q.handed put.3 counts_are
+        turn_block line room q u (whole_block q header payload) taken_is (block_with header payload) refl linked holds link_is held_is Init (q.at + 10) counts room' put.0 put.1 put.2 q.handed put.3 counts_are
 
     -- a bit is skipped, if it slipped
     abbrev after_slip : Progress
@@ -347,7 +350,7 @@ module _ (line room : List ℕ) (q : Progress) (u : Under line room q) (hq : Hun
         }
 
     skips : Taken
-    skips = record { full = false; header = 0; payload = 0; carried = q.receiver.carried; next = q.pos + 66 + 1 }
+    skips = record { block = None; carried = q.receiver.carried; next = q.pos + 66 + 1 }
 
     turn_slip : (b : Bool) → eqb (miss_of header) 1 ≡ b → Turns line room room' q after_slip
     unfolding skips
@@ -543,6 +546,21 @@ hunt_turn line room p s hp u header payload eh ep ahead few told v ev room' er m
   where
     small : header < 4
     small = subst (λ (n : ℕ). n < 4) (sym eh) (number_lt 2 (λ i. line_bit line (s.pos + i)) (λ i q. line_bit_lt line (s.pos + i)))
+
+-- a header of the line is below 4
+pub header_small : (line : List ℕ) (pos h : ℕ) → h ≡ header_at line pos → h < 4
+header_small line pos h e = subst (λ (n : ℕ). n < 4) (sym e) (number_lt 2 (λ i. line_bit line (pos + i)) (λ i q. line_bit_lt line (pos + i)))
+
+-- a block that is decoded at once
+pub tests_some : (ed : Edition) (h x : ℕ) (q : Option Decoded) → h < 4 → (control_of h * get_or types (x % 256) 0 ≡ 0 → ⊥) → DecodedAtOnce h x q → is_some q ≡ true → Tests ed h x
+tests_some ed h x (Some r) small n at_once e = tests_quick ed h x small n r.class r.vector (at_once ed)
+tests_some ed h x None small n at_once e = cc
+
+-- what is known of a block that is read and descrambled is so of the block that the line has
+pub tests_read : (line : List ℕ) (pos history h payload word : ℕ) → h ≡ header_at line pos → payload ≡ payload_at line pos → word ≡ descrambled payload history
+    → (ed : Edition) → Tests ed h word → Tests ed (header_at line pos) (descrambled (payload_at line pos) history)
+tests_read line pos history h payload word eh ep ew ed t =
+    subst₂ (Tests ed) eh (ew ∙ ap (λ (x : ℕ). descrambled x history) ep) t
 
 -- the vector of the block held fits the room
 pub hunt_room : (line room : List ℕ) (p : Progress) (s : Search) → Hunts p → (u : Under line room (after_search p s)) → s.pos / 8 + 18 ≤ length line → s.tested < 63

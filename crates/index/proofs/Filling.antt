@@ -16,6 +16,7 @@ use Rattle.lent_words.proofs.Laws.{length_words, words_append}
 use Rattle.block.specs.Block.{vectors_in, vector_list, is_error_vector}
 use Rattle.block.proofs.Vectors.{vectors_add, take_vectors}
 use Rattle.vector_tests.specs.Tests.{of_kind_s}
+use Rattle.vector_tests.proofs.Parts.{list_part}
 use Rattle.index.specs.Index.{entry_at, entries_to, entry_count, index_for}
 use Rattle.index.proofs.Reading.{entry_count_lem, length_entries}
 
@@ -24,6 +25,13 @@ pub put_two : (at errors starts : ℕ) (l l₁ l₂ : List ℕ) → at + 8 ≤ l
     → l₂ ≡ take (at + 4) l₁ ++ cut 8 (bit starts) 4 ++ drop (at + 4 + 4) l₁ → l₂ ≡ take at l ++ word_bytes 4 (errors ∷ starts ∷ []) ++ drop (at + 8) l
 unfolding cut
 put_two at errors starts l l₁ l₂ h p q = put_more at 4 4 (cut 8 (bit errors) 4) (cut 8 (bit starts) 4) l l₁ l₂ refl refl (omega arith) p q
+
+-- the vectors between two entries, as a part of the bytes
+pub part : (bytes : List ℕ) (k m n : ℕ) → k < length bytes / 640 → n ≡ 640 * k → m ≡ 640 → vector_list (take m (drop n bytes)) ≡ vectors_in 64 (drop (10 * (64 * k)) bytes)
+part bytes k m n l e f =
+    let g : n ≡ 10 * (64 * k) = omega arith in
+    ap₂ (λ (x y : ℕ). vector_list (take x (drop y bytes))) f g
+    ∙ list_part 64 (drop (10 * (64 * k)) bytes) (omega (arith, length-drop (10 * (64 * k)) bytes))
 
 module _ (bytes before : List ℕ) where
   abbrev vs : List (List ℕ)

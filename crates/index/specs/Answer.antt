@@ -1,12 +1,11 @@
 -- What building an index answers, and what it leaves in the lent index: document 02, 8/13.
-use Rattle.std.specs.Prelude.{ℕ, ◌*◌, List, [], ◌∷◌, ◌++◌, Bool, not, ◌≡◌, length, eqb}
-use Rattle.refusals.specs.Number.{number_of}
+use Rattle.std.specs.Prelude.{ℕ, ◌*◌, List, [], ◌∷◌, ◌++◌, Bool, not, ◌≡◌, length, eqb, Result}
 use Rattle.refusals.specs.First.{Check, check, first, by_verdict}
+use Rattle.refusals.specs.Refused.{by_result}
+use Rattle.refusals.specs.declared.Refused.{Refused}
 use Rattle.block.specs.Block.{vector_list}
 use Rattle.vector_checks.specs.Checks.{vector_checks}
 use Rattle.index.specs.Index.{entry_count, index_for}
-use Rattle.index.specs.declared.Built.{Built}
-use Rattle.index.specs.declared.Built.TheVariants.{Done, Refused}
 
 -- "an index of the wrong length, handed in or to be built": so many bytes beside these vector bytes
 abbrev pub wrong_length : List ℕ → (index : ℕ) → Bool
@@ -29,10 +28,9 @@ unfoldable pub index_after : List ℕ → List ℕ → List ℕ
 index_after bytes index = by_verdict (first (build_checks bytes (length index))) (index_for (vector_list bytes)) (λ number place. index)
 
 -- the document's number and values for each case of the answer
-abbrev pub answer_of : Built → BuildAnswer
-answer_of Done = built
-answer_of (Refused why place) = refused (number_of why) place
+abbrev pub answer_of : Result Unit Refused → BuildAnswer
+answer_of = by_result (λ done. built) refused
 
 -- the promise: `build` was lent `index`, answered `r` and left `index'`
-abbrev pub Builds : (bytes index : List ℕ) (r : Built) (index' : List ℕ) → Type 0
+abbrev pub Builds : (bytes index : List ℕ) (r : Result Unit Refused) (index' : List ℕ) → Type 0
 Builds bytes index r index' = (answer_of r ≡ build_answer bytes (length index)) × (index' ≡ index_after bytes index)

@@ -1,5 +1,6 @@
 -- What counting answers, by the checks of the vectors and of the range. Assumes nothing.
 use Prim.Native.Nat.{ℕ, ◌*◌, ◌<◌, ◌≤◌}
+use Rattle.std.specs.Prelude.{Err}
 use mathlib.Core.Path.{◌≡◌, sym, ◌∙◌}
 use mathlib.Core.Bool.{true, false, ◌||◌}
 use mathlib.Core.List.{List, [], ◌∷◌}
@@ -7,7 +8,7 @@ use lib.Dec.{ltb}
 use lib.ListN.{length}
 use borrow.Author.Tests.{lt-ltb, le-ltb, eq-eqb, ne_eqb}
 use Rattle.refusals.specs.Number.{number_of}
-use Rattle.refusals.specs.declared.Refusal.{Refusal}
+use Rattle.refusals.specs.declared.Refused.{Refused}
 use Rattle.refusals.specs.First.{Check, check, accepted, first}
 use Rattle.refusals.specs.First as First
 use Rattle.refusals.proofs.Laws.{applied, skipped, accepts}
@@ -17,16 +18,15 @@ use Rattle.vector_checks.proofs.Laws.{stopped, went_on}
 use Rattle.index.specs.Index.{entry_count}
 use Rattle.index.specs.Answer.{wrong_length}
 use Rattle.index_count.specs.Answer.{refused, count_checks, counts_with, count_answer, answer_of}
-use Rattle.index_count.specs.declared.Counted.TheVariants.{Refused}
 
 module _ (bytes index : List ℕ) (a b : ℕ) where
   abbrev out : Check
   out = check 11 (ltb b a || ltb (length (vector_list bytes)) b || wrong_length bytes (length index))
 
   -- the vectors are refused
-  pub bad_vectors : (why : Refusal) (place : ℕ) → First.refused (number_of why) place ≡ first (vector_checks bytes) → answer_of (Refused why place) ≡ count_answer bytes index a b
+  pub bad_vectors : (r : Refused) → First.refused (number_of r.0) r.1 ≡ first (vector_checks bytes) → answer_of (Err r) ≡ count_answer bytes index a b
   unfolding count_answer count_checks
-  bad_vectors why place e = stopped bytes (out ∷ []) (counts_with bytes index a b) refused (number_of why) place e
+  bad_vectors r e = stopped bytes (out ∷ []) (counts_with bytes index a b) refused (number_of r.0) r.1 e
 
   module _ (s : accepted ≡ first (vector_checks bytes)) where
     range : out.applies ≡ true → refused 11 0 ≡ count_answer bytes index a b

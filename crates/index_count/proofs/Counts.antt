@@ -1,35 +1,34 @@
 -- Counts by an entry and the vectors after it. Assumes nothing.
-use Prim.Native.Nat.{ℕ, ◌+◌, ◌*◌, ◌/◌, ◌%◌, ◌-◌, ◌≤◌, ◌<◌, min}
+use Prim.Native.Nat.{ℕ, ◌+◌, ◌*◌, ◌/◌, ◌%◌, ◌-◌, ◌≤◌, min}
 use mathlib.Core.Path.{◌≡◌, sym, ap, ap₂, ◌∙◌}
 use mathlib.Core.Bool.{Bool}
 use mathlib.Core.List.{List}
 use native.Mathlib.Omega.{arith}
-use native.Mathlib.Nat.{min-eq_left, min-eq_right, min-le_left}
-use lib.ListN.{length, take, drop, length-take}
+use native.Mathlib.Nat.{min-eq_left, min-le_left}
+use lib.ListN.{length, take, drop, length-take, length-drop}
 use lib.Seq.{take-add}
 use Rattle.bits.specs.Lists.{how_many}
 use Rattle.bits.proofs.HowMany.{many_append, how_few}
 use Rattle.block.specs.Block.{vectors_in, vector_list}
 use Rattle.block.proofs.Vectors.{part_vectors}
+use Rattle.vector_tests.proofs.Parts.{list_part}
 use Rattle.index_count.specs.Counting.{full_count, count_up_to, count_between}
 
 -- ---- as the code reads it
 
--- an entry's number and that of the vectors after it
+-- the vectors after an entry, as a part of the bytes
+pub part : (bytes : List ℕ) (a m n : ℕ) → a ≤ length bytes / 10 → n ≡ 640 * (a / 64) → m ≡ 10 * (a % 64)
+    → vector_list (take m (drop n bytes)) ≡ vectors_in (a % 64) (drop (10 * (64 * (a / 64))) bytes)
+part bytes a m n l e f =
+    let g : n ≡ 10 * (64 * (a / 64)) = omega arith in
+    ap₂ (λ (x y : ℕ). vector_list (take x (drop y bytes))) f g
+    ∙ list_part (a % 64) (drop (10 * (64 * (a / 64))) bytes) (omega (arith, length-drop (10 * (64 * (a / 64))) bytes))
+
+-- an entry's number and that of these
 pub up_to : (test : List ℕ → Bool) (number_at : ℕ → ℕ) (bytes : List ℕ) (a x n : ℕ) → a ≤ length bytes / 10 → x ≡ number_at (a / 64)
     → n ≡ how_many test (vectors_in (a % 64) (drop (10 * (64 * (a / 64))) bytes)) → x + n ≡ count_up_to test number_at (vector_list bytes) a
 up_to test number_at bytes a x n h e f =
     ap₂ ◌+◌ e (f ∙ ap (how_many test) (sym (part_vectors (a % 64) (64 * (a / 64)) (length bytes / 10) bytes (omega arith))))
-
--- the three cases of holding
-pub held_none : (high low most : ℕ) → high ≤ low → 0 ≡ min (high - low) most
-held_none high low most h = let z : high - low ≡ 0 = omega arith in rw z (sym (min-eq_left (omega arith)))
-
-pub held_most : (high low most : ℕ) → most < high - low → most ≡ min (high - low) most
-held_most high low most h = sym (min-eq_right (omega arith))
-
-pub held_same : (high low most : ℕ) → high - low ≤ most → high - low ≡ min (high - low) most
-held_same high low most h = sym (min-eq_left h)
 
 -- ---- with the numbers of an index that was built
 

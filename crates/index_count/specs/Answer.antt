@@ -1,15 +1,15 @@
 -- What counting with an index answers: document 02, 8/13.
-use Rattle.std.specs.Prelude.{ℕ, List, [], ◌∷◌, ◌++◌, ◌||◌, length, ltb}
-use Rattle.refusals.specs.Number.{number_of}
+use Rattle.std.specs.Prelude.{ℕ, List, [], ◌∷◌, ◌++◌, ◌||◌, length, ltb, Result}
 use Rattle.refusals.specs.First.{Check, check, first, by_verdict}
+use Rattle.refusals.specs.Refused.{by_result}
+use Rattle.refusals.specs.declared.Refused.{Refused}
 use Rattle.block.specs.Block.{is_error_vector, vector_list}
 use Rattle.vector_checks.specs.Checks.{vector_checks}
 use Rattle.vector_tests.specs.Tests.{of_kind_s}
+use Rattle.tally.specs.declared.Tally.{Tally}
 use Rattle.index.specs.Index.{errors_at, starts_at}
 use Rattle.index.specs.Answer.{wrong_length}
 use Rattle.index_count.specs.Counting.{count_between}
-use Rattle.index_count.specs.declared.Counted.{Counted}
-use Rattle.index_count.specs.declared.Counted.TheVariants.{Counts, Refused}
 
 -- "11, a after b or b past the end, or an index of the wrong length, handed in .., checked after 1, 2 and 5"
 unfoldable pub count_checks : List ℕ → (index a b : ℕ) → List Check
@@ -29,6 +29,5 @@ unfoldable pub count_answer : List ℕ → List ℕ → (a b : ℕ) → CountAns
 count_answer bytes index a b = by_verdict (first (count_checks bytes (length index) a b)) (counts_with bytes index a b) refused
 
 -- the document's number and values for each case of the answer
-abbrev pub answer_of : Counted → CountAnswer
-answer_of (Counts errors starts) = counts errors starts
-answer_of (Refused why place) = refused (number_of why) place
+abbrev pub answer_of : Result Tally Refused → CountAnswer
+answer_of = by_result (λ tally. counts tally.errors tally.starts) refused

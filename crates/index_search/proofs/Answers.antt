@@ -1,14 +1,15 @@
 -- What finding answers, by the checks of the vectors and of the index, and by what is found. Assumes nothing.
 use Prim.Native.Nat.{ℕ, ◌+◌, ◌*◌, ◌/◌, ◌-◌, ◌<◌, ◌≤◌, min}
+use Rattle.std.specs.Prelude.{Err}
 use mathlib.Core.Path.{◌≡◌, sym, ap, ap₂, ◌∙◌}
 use mathlib.Core.Bool.{true, false, not}
 use mathlib.Core.List.{List, [], ◌∷◌}
 use native.Mathlib.Omega.{arith}
 use lib.Dec.{leb}
-use lib.ListN.{length, drop}
+use lib.ListN.{length, take, drop, length-drop}
 use borrow.Author.Tests.{le-leb, lt-leb, eq-eqb, ne_eqb}
 use Rattle.refusals.specs.Number.{number_of}
-use Rattle.refusals.specs.declared.Refusal.{Refusal}
+use Rattle.refusals.specs.declared.Refused.{Refused}
 use Rattle.refusals.specs.First.{Check, check, accepted, first, by_verdict}
 use Rattle.refusals.specs.First as First
 use Rattle.refusals.proofs.Laws.{applied, skipped, accepts}
@@ -19,11 +20,11 @@ use Rattle.vector_checks.proofs.Laws.{stopped, went_on}
 use Rattle.index.specs.Index.{entry_count, errors_at}
 use Rattle.index.specs.Answer.{wrong_length}
 use Rattle.index.proofs.Reading.{entry_count_lem}
+use Rattle.vector_tests.proofs.Parts.{list_part}
 use Rattle.index_search.specs.Search.{before_nth, halved, after_entry, passed_by}
 use Rattle.index_search.specs.Answer.{found, refused, search_in, no_such, find_checks, found_with, find_answer, answer_of}
 use Rattle.index_search.specs.Parts.{found_by}
 use Rattle.index_search.specs.declared.Halved.{Halved}
-use Rattle.index_search.specs.declared.Found.TheVariants.{Refused}
 use Rattle.index_search.proofs.Halving.{Halves, halves_bracket}
 use Rattle.index_search.proofs.Nth.{after_vectors}
 
@@ -32,9 +33,9 @@ module _ (bytes index : List ℕ) (n : ℕ) where
   out = check 11 (wrong_length bytes (length index))
 
   -- the vectors are refused
-  pub bad_vectors : (why : Refusal) (place : ℕ) → First.refused (number_of why) place ≡ first (vector_checks bytes) → answer_of (Refused why place) ≡ find_answer bytes index n
+  pub bad_vectors : (r : Refused) → First.refused (number_of r.0) r.1 ≡ first (vector_checks bytes) → answer_of (Err r) ≡ find_answer bytes index n
   unfolding find_answer find_checks
-  bad_vectors why place e = stopped bytes (out ∷ no_such bytes index n ∷ []) (found_with bytes index n) refused (number_of why) place e
+  bad_vectors r e = stopped bytes (out ∷ no_such bytes index n ∷ []) (found_with bytes index n) refused (number_of r.0) r.1 e
 
   module _ (s : accepted ≡ first (vector_checks bytes)) where
     -- the index is of the wrong length
@@ -63,6 +64,14 @@ module _ (bytes index : List ℕ) (n : ℕ) where
 
     pub inside : 64 * h.entry ≤ length bytes / 10
     inside = omega (arith, within, entry_count_lem bytes)
+
+    -- the vectors after that entry, as a part of the bytes
+    pub part : (to m k : ℕ) → to ≡ min (64 * h.entry + 64) (length bytes / 10) → k ≡ 10 * (64 * h.entry) → m ≡ 10 * to - k
+        → vector_list (take m (drop k bytes)) ≡ vectors_in (to - 64 * h.entry) (drop (10 * (64 * h.entry)) bytes)
+    part to m k e f g =
+        let n : m ≡ 10 * (to - 64 * h.entry) = omega (arith, inside) in
+        ap₂ (λ (x y : ℕ). vector_list (take x (drop y bytes))) n f
+        ∙ list_part (to - 64 * h.entry) (drop (10 * (64 * h.entry)) bytes) (omega (arith, inside, length-drop (10 * (64 * h.entry)) bytes))
 
     module _ (left after passed : ℕ) (e : left ≡ n - errors_at index h.entry) (a : after ≡ min 64 (length bytes / 10 - 64 * h.entry))
         (p : passed ≡ before_nth left (vectors_in after (drop (10 * (64 * h.entry)) bytes))) where

@@ -1,21 +1,23 @@
 -- The n-th error vector of a list. Assumes nothing.
+use Rattle.std.specs.Prelude.{None, Some}
 use Prim.Native.Nat.{ℕ, suc, ◌+◌, ◌*◌, ◌/◌, ◌-◌, ◌≤◌, ◌<◌, min}
-use mathlib.Core.Path.{◌≡◌, refl, sym, ap, ap₂, ◌∙◌}
+use mathlib.Core.Path.{◌≡◌, refl, sym, ap, ◌∙◌}
 use mathlib.Core.Bool.{true, false}
 use mathlib.Core.List.{List, [], ◌∷◌, ◌++◌}
 use native.Mathlib.Omega.{arith}
 use native.Mathlib.Nat.{zero-add, min-eq_left, min-eq_right}
-use lib.ListN.{length, get_or, take, drop}
-use lib.Seq.{drop-drop, take_all}
+use lib.ListN.{length, get_or, take, drop, length-append}
+use lib.Seq.{take_all}
 use lib.Dec.{eqb}
 use borrow.Author.Tests.{eqb-true, eqb-false, ne_eqb}
 use Rattle.refusals.proofs.Laws.{by_test}
 use Rattle.bits.specs.Lists.{how_many}
 use Rattle.bits.proofs.Laws.{by_lt}
-use Rattle.lent_words.specs.Words.{flag_word}
 use Rattle.block.specs.Block.{vectors_in, vector_list, is_error_vector}
 use Rattle.block.proofs.Vectors.{length_vectors, drop_vectors, take_vectors}
+use Rattle.vector_tests.proofs.Parts.{list_step, list_end}
 use Rattle.index_search.specs.Search.{before_nth, after_entry}
+use Rattle.index_search.specs.Parts.{IsNth}
 use Rattle.index_search.specs.Built.{FindsNth}
 
 -- ---- one vector
@@ -121,85 +123,37 @@ finds_nth n vs = (nth_is n vs, λ p h. (nth_stop n vs [] p h).1)
 
 -- ---- as the code looks for it
 
-module _ (bytes : List ℕ) (from n m : ℕ) where
-  abbrev vs : List (List ℕ)
-  vs = vectors_in m (drop (10 * from) bytes)
+-- after i vectors of the bytes, `left` are left to find in the rest
+pub record Looking (bytes rest : List ℕ) (n left i : ℕ) : Type 0 where
+  pub far : 10 * i + length rest ≡ length bytes
+  pub so_far : before_nth n (vector_list bytes) ≡ i + before_nth left (vector_list rest)
 
-  -- after i vectors, `left` are left to find
-  pub record Looking (left i : ℕ) : Type 0 where
-    pub inside : i ≤ m
-    pub some : 0 < left
-    pub so_far : before_nth n vs ≡ i + before_nth left (vectors_in (m - i) (drop (10 * (from + i)) bytes))
+pub look_first : (bytes : List ℕ) (n : ℕ) → Looking bytes bytes n n 0
+look_first bytes n = record { far = omega arith; so_far = sym (zero-add _) }
 
-  pub look_first : 0 < n → Looking n 0
-  look_first p =
-      let e : m - 0 ≡ m = omega arith in
-      let d : 10 * (from + 0) ≡ 10 * from = omega arith in
-      record { inside = omega arith; some = p; so_far = sym (zero-add _ ∙ ap₂ (λ (j k : ℕ). before_nth n (vectors_in j (drop k bytes))) e d) }
+module _ (bytes rest : List ℕ) (n left i : ℕ) (l : Looking bytes rest n left i) where
+  pub look_none : length rest < 10 → IsNth n (vector_list bytes) None
+  look_none h =
+      let e = ap (before_nth left) (list_end rest h) ∙ nth_nil left in
+      omega (arith, l.so_far, l.far, e, length_vectors (length bytes / 10) bytes)
 
-  pub look_none : n ≡ 0 → m ≡ before_nth n vs
-  look_none z = sym (ap (λ (k : ℕ). before_nth k vs) z ∙ nth_zero vs ∙ length_vectors m (drop (10 * from) bytes))
+  module _ (w after : List ℕ) (e : rest ≡ w ++ after) (t : length w ≡ 10) where
+    split : before_nth n (vector_list bytes) ≡ i + before_nth left (w ∷ vector_list after)
+    split = l.so_far ∙ ap (λ (vs : List (List ℕ)). i + before_nth left vs) (list_step rest w after e t)
 
-  module _ (left i : ℕ) (l : Looking left i) where
-    pub look_end : m ≤ i → i ≡ before_nth n vs
-    unfolding vectors_in
-    look_end h =
-        let e : m - i ≡ 0 = omega arith in
-        sym (l.so_far ∙ ap (λ (k : ℕ). i + before_nth left (vectors_in k (drop (10 * (from + i)) bytes))) e ∙ ap (λ (k : ℕ). i + k) (nth_nil left) ∙ omega arith)
+    on : 10 * (i + 1) + length after ≡ length bytes
+    on = omega (arith, l.far, ap length e, length-append w after)
 
-    module _ (h : i < m) where
-      -- the vector looked at
-      abbrev one : List ℕ
-      one = take 10 (drop (10 * (from + i)) bytes)
+    pub look_found : is_error_vector w ≡ true → left ≡ 1 → IsNth n (vector_list bytes) (Some i)
+    look_found x o =
+        let f = ap (λ (k : ℕ). before_nth k (w ∷ vector_list after)) o ∙ nth_here w (vector_list after) x in
+        (omega (arith, on, length_vectors (length bytes / 10) bytes), omega (arith, split, f))
 
-      abbrev rest : List (List ℕ)
-      rest = vectors_in (m - (i + 1)) (drop (10 * (from + (i + 1))) bytes)
+    pub look_next : is_error_vector w ≡ true → (left ≡ 1 → ⊥) → Looking bytes after n (left - 1) (i + 1)
+    look_next x o = record { far = on; so_far = omega (arith, split, nth_next left w (vector_list after) x o) }
 
-      split : vectors_in (m - i) (drop (10 * (from + i)) bytes) ≡ one ∷ rest
-      unfolding vectors_in
-      split =
-          let e : m - i ≡ suc (m - (i + 1)) = omega arith in
-          let d : 10 * (from + i) + 10 ≡ 10 * (from + (i + 1)) = omega arith in
-          ap (λ (k : ℕ). vectors_in k (drop (10 * (from + i)) bytes)) e
-          ∙ ap (λ (b : List ℕ). one ∷ vectors_in (m - (i + 1)) b) (drop-drop 10 (10 * (from + i)) bytes ∙ ap (λ (k : ℕ). drop k bytes) d)
-
-      pub look_found : (x : ℕ) → x ≡ flag_word (is_error_vector one) → left ≡ x → i ≡ before_nth n vs
-      look_found x e o =
-          by_test (is_error_vector one)
-          (λ t.
-          let is : left ≡ 1 = o ∙ e ∙ ap flag_word t in
-          sym (l.so_far ∙ ap₂ (λ (k : ℕ) (v : List (List ℕ)). i + before_nth k v) is split ∙ ap (λ (k : ℕ). i + k) (nth_here one rest t) ∙ omega arith))
-          (λ t. let z : left ≡ 0 = o ∙ e ∙ ap flag_word t in absurd (omega (arith, l.some)))
-
-      pub look_next : (x : ℕ) → x ≡ flag_word (is_error_vector one) → (left ≡ x → ⊥) → (x ≤ left) × Looking (left - x) (i + 1)
-      look_next x e o =
-          by_test (is_error_vector one)
-          (λ t.
-          let is : x ≡ 1 = e ∙ ap flag_word t in (
-            omega (arith, l.some),
-            record {
-              inside = omega arith;
-              some = more is;
-              so_far =
-                  l.so_far ∙ ap (λ (v : List (List ℕ)). i + before_nth left v) split ∙ ap (λ (k : ℕ). i + k) (nth_next left one rest t (λ q. o (q ∙ sym is)))
-                  ∙ ap (λ (k : ℕ). i + suc (before_nth (left - k) rest)) (sym is) ∙ omega arith;
-            },
-          ))
-          (λ t.
-          let is : x ≡ 0 = e ∙ ap flag_word t in
-          let z : left ≡ left - x = omega arith in (
-            omega arith,
-            record {
-              inside = omega arith;
-              some = omega (arith, l.some);
-              so_far =
-                  l.so_far ∙ ap (λ (v : List (List ℕ)). i + before_nth left v) split ∙ ap (λ (k : ℕ). i + k) (nth_other left one rest t)
-                  ∙ ap (λ (k : ℕ). i + suc (before_nth k rest)) z ∙ omega arith;
-            },
-          ))
-        where
-          more : x ≡ 1 → 0 < left - x
-          more is = by_lt x left (λ q. omega arith) (λ q. absurd (o (omega (arith, l.some))))
+    pub look_other : is_error_vector w ≡ false → Looking bytes after n left (i + 1)
+    look_other x = record { far = on; so_far = omega (arith, split, nth_other left w (vector_list after) x) }
 
 -- the at most 64 vectors after an entry, as they stand in the bytes
 pub after_vectors : (bytes : List ℕ) (k m : ℕ) → 64 * k ≤ length bytes / 10 → m ≡ min 64 (length bytes / 10 - 64 * k)

@@ -1,14 +1,14 @@
 -- What finding an error vector with an index answers: document 02, 8/13.
-use Rattle.std.specs.Prelude.{ℕ, ◌+◌, ◌*◌, List, [], ◌∷◌, ◌++◌, length, leb}
-use Rattle.refusals.specs.Number.{number_of}
+use Rattle.std.specs.Prelude.{ℕ, ◌+◌, ◌*◌, List, [], ◌∷◌, ◌++◌, length, leb, Result}
 use Rattle.refusals.specs.First.{Check, check, first, by_verdict}
+use Rattle.refusals.specs.Refused.{by_result}
+use Rattle.refusals.specs.declared.Refused.{Refused}
 use Rattle.block.specs.Block.{vector_list}
 use Rattle.vector_checks.specs.Checks.{vector_checks}
 use Rattle.index.specs.Answer.{wrong_length}
 use Rattle.index_search.specs.Search.{searched, after_entry, passed_by}
 use Rattle.index_search.specs.declared.Halved.{Halved}
-use Rattle.index_search.specs.declared.Found.{Found}
-use Rattle.index_search.specs.declared.Found.TheVariants.{At, Refused}
+use Rattle.index_search.specs.declared.Place.{Place}
 
 -- the number of a vector, and "how many entries it read"; or a refusal's number and place
 pub data FindAnswer : Type 0 where
@@ -36,6 +36,5 @@ module _ (bytes index : List ℕ) (n : ℕ) where
   find_answer = by_verdict (first find_checks) found_with refused
 
 -- the document's number and values for each case of the answer
-abbrev pub answer_of : Found → FindAnswer
-answer_of (At vector read) = found vector read
-answer_of (Refused why place) = refused (number_of why) place
+abbrev pub answer_of : Result Place Refused → FindAnswer
+answer_of = by_result (λ place. found place.vector place.read) refused

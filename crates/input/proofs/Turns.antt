@@ -1,22 +1,36 @@
 -- What the loop over the input keeps, and what one turn does.
-use Prim.Native.Nat.{ℕ, ◌+◌, ◌-◌, ◌^◌, ◌≤◌, ◌<◌}
+use Prim.Native.Nat.{ℕ, ◌+◌, ◌-◌, ◌^◌, ◌≤◌}
 use mathlib.Core.Path.{◌≡◌, refl, sym, ap, subst, ◌∙◌}
 use mathlib.Core.List.{List, [], ◌∷◌, ◌++◌}
 use native.Mathlib.Omega.{arith}
 use lib.ListN.{length, take, length-append}
-use lib.Seq.{length-take-le}
+use lib.Seq.{length-take-le, take_all}
 use Rattle.putting.specs.Overlaid.{overlaid}
 use Rattle.putting.proofs.Laws.{overlaid_none, overlaid_length, overlaid_over, overlaid_take}
-use Rattle.records.specs.Record.{body_limit}
-use Rattle.gather.specs.Gather.{Gathered, more, done, stop, failed, RecordRead, next_read, read_of, bytes_in, so_far, turn_in, turn_of, Shows}
-use Rattle.gather.specs.File.{gathered_after, Going, on, InTurn}
-use Rattle.gather.specs.declared.Got.{Got}
+use Rattle.records.specs.Record.{body_limit, wanted_of}
+use Rattle.gather.specs.Gather.{Gathered, more, done, stop, failed, RecordRead, next_read, read_of, count_of, bytes_in, so_far, turn_in, turn_of, Shows}
+use Rattle.gather.specs.File.{gathered_after, record_window, IsWindow, Going, on, InTurn}
 use Rattle.gather.specs.declared.Step.{Step}
 use Rattle.gather.specs.declared.Step.TheVariants as Case
+use Rattle.gather.specs.declared.Stop.{Stop}
+use Rattle.gather.specs.declared.Stop.TheVariants as Why
+use Rattle.std.specs.Prelude.{Result, Ok, Err}
 use Rattle.gather.proofs.File.{after_one, in_turn_one}
 use Rattle.gather.proofs.Judged.{grows}
 use Rattle.input.specs.Read.{WindowIn, Gathers}
-use Rattle.input.proofs.Windows.{is_window}
+
+-- A read that did not fail is one window.
+pub is_window : {E : Type 0} (buffer : List ℕ) (read : Result ℕ E) → WindowIn buffer read → IsWindow body_limit (read_of read buffer)
+unfolding record_window
+is_window buffer (Ok n) w =
+    let l = length-take-le n buffer w.0 in
+    take_all (4 + wanted_of body_limit (take 4 (take n buffer))) (take n buffer) (omega (arith, w.1))
+is_window buffer (Err e) w = tt
+
+-- It is no longer than the buffer.
+pub in_buffer : {E : Type 0} (buffer : List ℕ) (read : Result ℕ E) → WindowIn buffer read → count_of read ≤ length buffer
+in_buffer buffer (Ok n) w = w.0
+in_buffer buffer (Err e) w = omega arith
 
 -- Reads were made, there was no end, no refusal and no failed read, and the store holds from its start on what they gave.
 pub record SoFar (kind : ℕ) (entry store : List ℕ) (used turns : ℕ) : Type 0 where
@@ -26,10 +40,10 @@ pub record SoFar (kind : ℕ) (entry store : List ℕ) (used turns : ℕ) : Type
   pub kept : store ≡ overlaid 0 (take used store) entry
   pub same : length store ≡ length entry
   pub fits : used ≤ length store
-  pub count : length reads + turns ≡ 2 ^ 64 - 1
+  pub count : length reads ≡ turns
 
 -- Nothing is read at first.
-pub turn_first : (kind : ℕ) (store : List ℕ) → SoFar kind store store 0 (2 ^ 64 - 1)
+pub turn_first : (kind : ℕ) (store : List ℕ) → SoFar kind store store 0 0
 unfolding gathered_after
 turn_first kind store = record { reads = []; in_turn = tt; held = refl; kept = sym (overlaid_none 0 store); same = refl; fits = omega arith; count = refl }
 
@@ -40,14 +54,16 @@ still_more (done b) n e = absurd (let z : ◌≡◌ {A = ℕ} 0 1 = cc in omega 
 still_more (stop k b) n e = absurd (let z : ◌≡◌ {A = ℕ} 0 1 = cc in omega arith)
 still_more (failed b) n e = absurd (let z : ◌≡◌ {A = ℕ} 0 1 = cc in omega arith)
 
--- The other cases of a step say that no more come.
-pub no_more : (step : Step) → ((m : ℕ) → step ≡ Case.More m → ⊥) → (n : ℕ) → turn_of step ≡ so_far n → ⊥
+-- The other step says that no more come, and so does what stops the gathering.
+pub no_more : (step : Step) → ((m : ℕ) → step ≡ Case.More m → ⊥) → (n : ℕ) → turn_of (Ok step) ≡ so_far n → ⊥
 no_more (Case.More m) o n e = o m refl
 no_more (Case.Done m) o n e = absurd (let z : ◌≡◌ {A = ℕ} 0 1 = cc in omega arith)
-no_more (Case.Refused why) o n e = absurd (let z : ◌≡◌ {A = ℕ} 0 1 = cc in omega arith)
-no_more Case.Failed o n e = absurd (let z : ◌≡◌ {A = ℕ} 0 1 = cc in omega arith)
 
-module _ (kind used turns : ℕ) (entry store exit : List ℕ) (step : Step) (got : Got) (buffer : List ℕ) (g : SoFar kind entry store used turns) (w : WindowIn buffer got)
+pub none_after : (stop : Stop) (n : ℕ) → turn_of (Err stop) ≡ so_far n → ⊥
+none_after (Why.Refused why) n e = absurd (let z : ◌≡◌ {A = ℕ} 0 1 = cc in omega arith)
+none_after Why.Failed n e = absurd (let z : ◌≡◌ {A = ℕ} 0 1 = cc in omega arith)
+
+module _ {E : Type 0} (kind used turns : ℕ) (entry store exit : List ℕ) (step : Result Step Stop) (got : Result ℕ E) (buffer : List ℕ) (g : SoFar kind entry store used turns) (w : WindowIn buffer got)
     (s : Shows (next_read body_limit kind (length store) (read_of got buffer) (more (take used store))) store step exit) where
   -- what was read
   abbrev r : RecordRead
@@ -91,8 +107,8 @@ module _ (kind used turns : ℕ) (entry store exit : List ℕ) (step : Step) (go
       }
 
   -- A record was taken.
-  pub turn_more : (n : ℕ) → step ≡ Case.More n → 0 < turns → SoFar kind entry exit n (turns - 1)
-  turn_more n e h =
+  pub turn_more : (n : ℕ) → step ≡ Ok (Case.More n) → SoFar kind entry exit n (turns + 1)
+  turn_more n e =
       let m = still_more then n (sym (ap turn_of e) ∙ s.0) in
       let b = bounds.1 in
       let u : take n exit ≡ bytes_in then = ap (λ (k : ℕ). take k exit) (sym m.1) ∙ ap (take (length (bytes_in then))) stored ∙ overlaid_take (bytes_in then) entry in
@@ -108,7 +124,7 @@ module _ (kind used turns : ℕ) (entry store exit : List ℕ) (step : Step) (go
       }
 
 -- The turns were used up.
-pub turns_up : (kind used turns : ℕ) (entry store : List ℕ) → SoFar kind entry store used turns → turns ≡ 0 → Gathers kind entry (Case.More used) store
+pub turns_up : (kind used turns : ℕ) (entry store : List ℕ) → SoFar kind entry store used turns → turns ≡ 2 ^ 64 - 1 → Gathers kind entry (Ok (Case.More used)) store
 turns_up kind used turns entry store g z =
     record {
       reads = g.reads;

@@ -1,10 +1,9 @@
 -- The five checks of a call in turn, and what a call that passes has. Assumes nothing.
-use Prim.Native.Nat.{ℕ, ◌+◌, ◌-◌, ◌≤◌, ◌<◌}
-use mathlib.Core.Path.{◌≡◌, sym}
-use mathlib.Core.Bool.{true, false}
-use native.Mathlib.Omega.{arith}
-use borrow.Author.Tests.{ltb-false, lt-ltb, le-ltb}
-use Rattle.refusals.specs.First.{first, accepted, refused}
+use Prim.Native.Nat.{ℕ, ◌+◌, ◌≤◌, ◌<◌}
+use mathlib.Core.Path.{◌≡◌}
+use mathlib.Core.Bool.{false}
+use borrow.Author.Tests.{ltb-false, le-ltb}
+use Rattle.refusals.specs.First.{first, accepted}
 use Rattle.refusals.proofs.Laws.{passed}
 use Rattle.kept_state.specs.declared.State.{State}
 use Rattle.bad_states.specs.BadStates.{bad_state}
@@ -40,34 +39,9 @@ unfolding burst_verdict burst_checks first
 all_passed s line room p =
     rw (le-ltb 1 s.edition p.known, p.good, le-ltb 825000 (s.bytes + line) p.sum, le-ltb room (room_for s line) p.fits, p.unclosed)
 
--- each in turn
-module _ (s : State) (line room : ℕ) where
-  pub thirteen : 1 < s.edition → refused 13 0 ≡ burst_verdict s line room
-  unfolding burst_verdict burst_checks first
-  thirteen l = rw (lt-ltb 1 s.edition l)
+-- what a state that is none of those of refusal 10 has
+pub few_bytes : (s : State) → bad_state s ≡ false → s.bytes ≤ 825000
+few_bytes s good = (within_limits s good).bytes
 
-  module _ (k : s.edition ≤ 1) where
-    pub nine : s.closed ≡ true → refused 9 0 ≡ burst_verdict s line room
-    unfolding burst_verdict burst_checks first
-    nine e = rw (le-ltb 1 s.edition k, e)
-
-    module _ (o : s.closed ≡ false) where
-      pub ten : bad_state s ≡ true → refused 10 0 ≡ burst_verdict s line room
-      unfolding burst_verdict burst_checks first
-      ten e = rw (le-ltb 1 s.edition k, e, o)
-
-      module _ (good : bad_state s ≡ false) where
-        -- the sum is within the limit
-        within : line ≤ 825000 - s.bytes → s.bytes + line ≤ 825000
-        within h = omega (arith, (within_limits s good).bytes)
-
-        pub one : 825000 - s.bytes < line → refused 1 0 ≡ burst_verdict s line room
-        unfolding burst_verdict burst_checks first
-        one h = rw (le-ltb 1 s.edition k, good, lt-ltb 825000 (s.bytes + line) (omega (arith, (within_limits s good).bytes)), o)
-
-        pub four : line ≤ 825000 - s.bytes → room < room_for s line → refused 4 0 ≡ burst_verdict s line room
-        unfolding burst_verdict burst_checks first
-        four h q = rw (le-ltb 1 s.edition k, good, le-ltb 825000 (s.bytes + line) (within h), lt-ltb room (room_for s line) q, o)
-
-        pub through : line ≤ 825000 - s.bytes → room_for s line ≤ room → accepted ≡ burst_verdict s line room
-        through h q = sym (all_passed s line room (record { known = k; unclosed = o; good = good; sum = within h; fits = q }))
+pub few_carried : (s : State) → bad_state s ≡ false → s.carried.count < 66
+few_carried s good = (within_limits s good).carried

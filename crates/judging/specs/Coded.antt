@@ -1,10 +1,10 @@
 -- A reviewer can skip this file. What the code's answer says.
+use Rattle.std.specs.Prelude.{Result, Ok, Err}
 use Rattle.refusals.specs.First.{Verdict, accepted, refused}
 use Rattle.refusals.specs.Number.{number_of}
-use Rattle.judging.specs.declared.Judgement.{Judgement}
-use Rattle.judging.specs.declared.Judgement.TheVariants.{Accepted, Refused}
+use Rattle.refusals.specs.declared.Refusal.{Refusal}
 
--- the verdict that a judgement says
-abbrev pub verdict_said : Judgement → Verdict
-verdict_said Accepted = accepted
-verdict_said (Refused why) = refused (number_of why) 0
+-- the verdict that an answer says
+abbrev pub verdict_said : Result Unit Refusal → Verdict
+verdict_said (Ok x) = accepted
+verdict_said (Err why) = refused (number_of why) 0

@@ -9,34 +9,26 @@ use bad_states::bad_state;
 use kept_state::State;
 use refusals::Refusal;
 
-// What the checks come to.
-#[derive(Clone, Copy)]
-pub enum Judgement {
-    Accepted,
-    Refused(Refusal),
-}
-
 // The checks of a burst of so many line bytes with so much room, in their order.
-pub fn judge(s: State, line: usize, room: usize) -> Judgement
+#[tactic(auto, using(crate::proofs::Checks::few_bytes, crate::proofs::Checks::few_carried), unfolding(crate::specs::Judging::burst_verdict, crate::specs::Judging::burst_checks, refusals::specs::First::first))]
+#[inline(always)]
+pub fn judge(s: State, line: usize, room: usize) -> Result<(), Refusal>
     ensures { verdict_said result ≡ burst_verdict s line room }
 {
-    let carried = s.carried;
-    let bytes = s.bytes;
-    let bad = bad_state(s);
     if 1 < s.edition {
-        return Judgement::Refused(Refusal::UnknownEdition);
+        return Err(Refusal::UnknownEdition);
     }
     if s.closed {
-        return Judgement::Refused(Refusal::Closed);
+        return Err(Refusal::Closed);
     }
-    if bad {
-        return Judgement::Refused(Refusal::BadState);
+    if bad_state(s) {
+        return Err(Refusal::BadState);
     }
-    if 825000 - bytes < line as u64 {
-        return Judgement::Refused(Refusal::TooMuch);
+    if 825000 - s.bytes < line as u64 {
+        return Err(Refusal::TooMuch);
     }
-    if (room as u64) < 10 * ((carried.count + 8 * (line as u64)) / 66 + 1) {
-        return Judgement::Refused(Refusal::Room);
+    if (room as u64) < 10 * ((s.carried.count + 8 * (line as u64)) / 66 + 1) {
+        return Err(Refusal::Room);
     }
-    Judgement::Accepted
+    Ok(())
 }

@@ -17,7 +17,7 @@ use vectors::Vector;
 
 // A held block: whether the receiver was then locked and not high, the number of its kind, and the two words of its vector, five bytes
 // each, the control byte lowest.
-#[derive(Clone, Copy)]
+#[derive(Clone, Copy, Debug, Default, PartialEq, Eq)]
 pub struct Kept {
     pub on: bool,
     pub kind: u64,
@@ -27,8 +27,9 @@ pub struct Kept {
 
 // What is handed back and given again: whether the closing call was made, the line bytes so far, the number of the edition, lock, error rate
 // and the last 58 payload bits of the line, the bits since the last tested block, whether the next bit is to be skipped, the number of
-// the diagram's state, the block tested last, if there is one, and the summary's counts over the line so far. Any numbers may be handed in.
-#[derive(Clone, Copy)]
+// the diagram's state, the block tested last, if there is one, and the summary's counts over the line so far. Any numbers may be handed in:
+// so these are the 29 words as C has them, `have` beside `held` and numbers for edition, diagram and kind, and refusal 10 tells what none of them means.
+#[derive(Clone, Copy, Debug, Default, PartialEq, Eq)]
 pub struct State {
     pub closed: bool,
     pub bytes: u64,
@@ -47,170 +48,126 @@ pub struct State {
 }
 
 // The diagram's state of a number.
+#[tactic(auto, unfolding(crate::specs::Meaning::diagram_by))]
+#[inline(always)]
 fn diagram_by(n: u64) -> diagrams::State
     ensures { result ≡ diagram_by n }
 {
-    if n == 1 {
-        return diagrams::State::Control;
+    match n {
+        1 => diagrams::State::Control,
+        2 => diagrams::State::Data,
+        3 => diagrams::State::Terminate,
+        4 => diagrams::State::Error,
+        5 => diagrams::State::LowPower,
+        _ => diagrams::State::Init,
     }
-    if n == 2 {
-        return diagrams::State::Data;
-    }
-    if n == 3 {
-        return diagrams::State::Terminate;
-    }
-    if n == 4 {
-        return diagrams::State::Error;
-    }
-    if n == 5 {
-        return diagrams::State::LowPower;
-    }
-    diagrams::State::Init
 }
 
 // The kind of a number: one that is none of the edition's kinds is E.
+#[tactic(auto, unfolding(crate::specs::Meaning::held_kind_by, block::specs::Block::edition_of))]
+#[inline(always)]
 fn kind_by(edition: u64, n: u64) -> Kind
     ensures { result ≡ held_kind_by (edition_of edition) n }
 {
-    if n == 0 {
-        return Kind::D;
+    match n {
+        0 => Kind::D,
+        1 => Kind::C,
+        2 => Kind::S,
+        3 => Kind::T,
+        5 if edition != 0 => Kind::LI,
+        _ => Kind::E,
     }
-    if n == 1 {
-        return Kind::C;
-    }
-    if n == 2 {
-        return Kind::S;
-    }
-    if n == 3 {
-        return Kind::T;
-    }
-    if n != 5 {
-        return Kind::E;
-    }
-    if edition == 0 {
-        return Kind::E;
-    }
-    Kind::LI
 }
 
-// The number of a kind.
+// The number of a kind: they are declared in the order of their numbers.
 fn kind_number(k: Kind) -> u64
     ensures { result ≡ held_kind_number k }
 {
-    match k {
-        Kind::D => 0,
-        Kind::C => 1,
-        Kind::S => 2,
-        Kind::T => 3,
-        Kind::E => 4,
-        Kind::LI => 5,
-    }
+    k as u64
 }
 
 // The carried bits with no bit set at or above their count.
+#[inline(always)]
 fn masked(c: Carried) -> Carried
     requires { c.count < 66 }
     ensures { Sound result × (carried_bits result ≡ bits_in c) }
 {
-    let one: u64 = 1;
     if c.count < 2 {
         return Carried {
-            count: c.count,
-            header: c.header % (one << c.count),
+            header: c.header % (1 << c.count),
             payload: 0,
+            ..c
         };
     }
     Carried {
-        count: c.count,
         header: c.header % 4,
-        payload: c.payload % (one << (c.count - 2)),
+        payload: c.payload % (1 << (c.count - 2)),
+        ..c
     }
 }
 
 // The block that is held, in an edition.
+#[inline(always)]
 fn block_of(edition: u64, k: Kept) -> Held
     ensures { tested_in result ≡ block_meant (edition_of edition) k }
 {
-    let first = k.first;
-    let second = k.second;
     Held {
         on: k.on,
         slipped: false,
         class: good_class(kind_by(edition, k.kind)),
         vector: Vector {
-            c0: (first % 256) as u8,
-            d0: (first / 256 % 4294967296) as u32,
-            c1: (second % 256) as u8,
-            d1: (second / 256 % 4294967296) as u32,
+            c0: (k.first % 256) as u8,
+            d0: (k.first / 256 % 4294967296) as u32,
+            c1: (k.second % 256) as u8,
+            d1: (k.second / 256 % 4294967296) as u32,
         },
     }
 }
 
-// The receiver that a state means. Lock and rate field by field: what stands between the fields of a state goes no further.
+// The receiver that a state means. Lock and rate field by field: copied whole, what stands between their fields went through the loop, and
+// receiving in bursts took 2 % more.
+#[inline(always)]
 pub fn receiver_of(s: State) -> Receiver
     requires { WithinLimits s }
     ensures { Means s result }
 {
-    let edition = s.edition;
-    let lock = s.lock;
-    let rate = s.rate;
-    let bits = s.carried;
-    let kept = s.held;
-    let carried = masked(bits);
-    let held = block_of(edition, kept);
     Receiver {
         skip: s.skip,
-        carried: carried,
+        carried: masked(s.carried),
         link: Link {
-            edition: tables::edition_of(edition),
+            edition: tables::edition_of(s.edition),
             lock: Lock {
-                tested: lock.tested,
-                invalid: lock.invalid,
-                locked: lock.locked,
+                tested: s.lock.tested,
+                invalid: s.lock.invalid,
+                locked: s.lock.locked,
             },
             rate: Rate {
-                blocks: rate.blocks,
-                invalid: rate.invalid,
-                high: rate.high,
+                blocks: s.rate.blocks,
+                invalid: s.rate.invalid,
+                high: s.rate.high,
             },
             history: s.history,
         },
         state: diagram_by(s.diagram),
         have: s.have,
-        held: held,
+        held: block_of(s.edition, s.held),
     }
-}
-
-fn wide(x: u8) -> u64
-    ensures { (result ≡ x) × (result < 256) }
-{
-    x as u64
-}
-
-fn wider(x: u32) -> u64
-    ensures { (result ≡ x) × (result < 4294967296) }
-{
-    x as u64
 }
 
 // The numbers of a held block, if there is one.
+#[tactic(auto, unfolding(crate::specs::Meaning::kept_for))]
+#[inline(always)]
 pub fn kept_of(have: bool, h: Held) -> Kept
     ensures { result ≡ kept_for (cond have (tested_in h ∷ []) []) }
 {
-    let v = h.vector;
-    let class = h.class;
-    if have {
-        return Kept {
-            on: h.on,
-            kind: kind_number(kind_in(class)),
-            first: wide(v.c0) + 256 * wider(v.d0),
-            second: wide(v.c1) + 256 * wider(v.d1),
-        };
+    if !have {
+        return Kept::default();
     }
+    let v = h.vector;
     Kept {
-        on: false,
-        kind: 0,
-        first: 0,
-        second: 0,
+        on: h.on,
+        kind: kind_number(kind_in(h.class)),
+        first: u64::from(v.c0) + 256 * u64::from(v.d0),
+        second: u64::from(v.c1) + 256 * u64::from(v.d1),
     }
 }

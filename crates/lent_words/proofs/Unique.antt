@@ -4,12 +4,17 @@ use mathlib.Core.Bool.{Bool, cond}
 use mathlib.Core.Path.{◌≡◌, sym, ◌∙◌}
 use mathlib.Core.List.{List, ◌++◌}
 use lib.ListN.{length, drop}
+use Rattle.std.specs.Prelude.{Result}
 use Rattle.refusals.specs.Number.{number_of}
-use Rattle.refusals.specs.declared.Refusal.{Refusal}
-use Rattle.lent_words.specs.Words.{flag_word, word_bytes, too_short, summary_with}
+use Rattle.refusals.specs.Refused.{verdict_of}
+use Rattle.refusals.specs.declared.Refused.{Refused}
+use Rattle.lent_words.specs.Words.{result_of, flag_word, word_bytes, too_short, summary_with}
 
-pub refusal_unique : (why : Refusal) (place r r' : ℕ) → r ≡ number_of why + 256 * place → r' ≡ number_of why + 256 * place → r ≡ r'
-refusal_unique why place r r' p q = p ∙ sym q
+pub refusal_unique : (refused : Refused) (r r' : ℕ) → r ≡ number_of refused.0 + 256 * refused.1 → r' ≡ number_of refused.0 + 256 * refused.1 → r ≡ r'
+refusal_unique refused r r' p q = p ∙ sym q
+
+pub result_of_unique : (answer : Result Unit Refused) (r r' : ℕ) → r ≡ result_of (verdict_of answer) → r' ≡ result_of (verdict_of answer) → r ≡ r'
+result_of_unique answer r r' p q = p ∙ sym q
 
 pub put_words_unique : (summary words r r' : List ℕ) → r ≡ word_bytes 8 words ++ drop (8 * length words) summary → r' ≡ word_bytes 8 words ++ drop (8 * length words) summary → r ≡ r'
 put_words_unique summary words r r' p q = p ∙ sym q

@@ -2,15 +2,17 @@
 use mathlib.Core.Path.{◌≡◌, refl, sym, ap, ap₂, ◌∙◌, subst}
 use mathlib.Core.List.{List, [], ◌∷◌, ◌++◌, append_assoc}
 use Prim.Native.Nat.{ℕ, zero, suc, ◌+◌, ◌-◌, ◌*◌, ◌/◌, ◌%◌, ◌^◌, ◌≤◌, ◌<◌, max}
-use native.Mathlib.Nat.{add_comm, add_assoc, add-suc, zero-add, add-zero, mul-le-mul_right, max-zero, zero-max, mod-lt}
+use native.Mathlib.Nat.{add_comm, add_assoc, zero-add, add-zero, mul-le-mul_right, max-zero, zero-max, mod-lt, div-one}
 use native.Mathlib.Omega.{arith}
 use native.Mathlib.Numerals.{add-one}
-use lib.ListN.{length, get_or, take, drop, set, length-append, length-drop}
-use lib.Seq.{sets, sets-eq, length-take-le, take_at, drop_at, drop-drop, set_split, append_snoc}
+use lib.ListN.{length, get_or, take, drop, set, length-append, length-drop, get_or-eq_default}
+use lib.Seq.{length-take-le, take_at, drop_at, drop-drop, set_split, append_snoc}
 use lib.Pow.{pow-add, pow_pos, shr_le}
+use Rattle.std.specs.Int.{sum_through, byte_worth, bytes_low_first}
+use Rattle.std.proofs.lemmas.List.{get_or-take, get_or-drop, length-take}
 use lib.Bits.{bit_or, or_lt}
 use Rattle.bits.specs.Bits.{bit, number, line_bit, stream_bit, cut}
-use Rattle.bits.proofs.Laws.{by_lt, bit_above, bit_below, is_number, bit_number, number_lt, number_same, number_add, bit_shr, bit_high, bit-or, bit_mod, shifted_low, shifted_high, stream_head, stream_tail, cut_same}
+use Rattle.bits.proofs.Laws.{by_lt, bit_above, bit_below, is_number, bit_number, number_lt, number_same, bit_shr, bit_high, bit-or, bit_mod, shifted_low, shifted_high, stream_head, stream_tail, cut_same}
 use Rattle.bits.proofs.Lists.{line_bit_lt, line_bit_is, line_bit_part, cut_add}
 
 -- ---- reading
@@ -63,21 +65,36 @@ module _ (s : List ℕ) (sb : (i : ℕ) → get_or s i 0 < 256) (at : ℕ) where
       let f : 8 * at + (pos % 8 + i) ≡ pos + i = omega arith in
       bit_mod (v / 2 ^ (pos % 8)) 2 i l ∙ bit_shr v (pos % 8) i ∙ bit_bytes_at 2 (pos % 8 + i) (omega arith) ∙ ap (line_bit s) f)
 
--- two halves of eight bytes
-pub halves : (s : List ℕ) (at lo hi : ℕ) → lo ≡ number 32 (λ i. line_bit s (8 * at + i)) → hi ≡ number 32 (λ i. line_bit s (8 * (at + 4) + i))
-    → lo + hi * 2 ^ 32 ≡ number 64 (λ i. line_bit s (8 * at + i))
-halves s at lo hi p q =
-    let e : (i : ℕ) → 8 * (at + 4) + i ≡ 8 * at + (32 + i) = λ i. omega arith in
-    ap₂ (λ (x y : ℕ). x + y * 2 ^ 32) p
-    (q ∙ number_same 32 (λ i. line_bit s (8 * (at + 4) + i)) (λ i. line_bit s (8 * at + (32 + i))) (λ i l. ap (line_bit s) (e i)))
-    ∙ sym (number_add 32 32 (λ i. line_bit s (8 * at + i)))
+byte_power : (k : ℕ) → 256 ^ k ≡ 2 ^ (8 * k)
+byte_power zero = refl
+byte_power (suc k) =
+    let e : k + 1 ≡ suc k = omega arith in
+    let f : 8 * k + 8 ≡ 8 * suc k = omega arith in
+    sym (ap (λ (n : ℕ). 256 ^ n) e) ∙ pow-add 256 k 1 ∙ ap (λ (x : ℕ). x * 256) (byte_power k) ∙ sym (pow-add 2 (8 * k) 8) ∙ ap (λ (n : ℕ). 2 ^ n) f
 
--- .. which were taken out
-pub part_halves : (s : List ℕ) (at n lo hi : ℕ) → n ≡ 8 → lo ≡ number 32 (λ i. line_bit (take n (drop at s)) (8 * 0 + i))
-    → hi ≡ number 32 (λ i. line_bit (take n (drop at s)) (8 * (0 + 4) + i)) → lo + hi * 2 ^ 32 ≡ number 64 (λ i. line_bit s (8 * at + i))
-part_halves s at n lo hi e p q =
-    halves (take n (drop at s)) 0 lo hi p q
-    ∙ number_same 64 (λ i. line_bit (take n (drop at s)) (8 * 0 + i)) (λ i. line_bit s (8 * at + i)) (λ i l. ap (line_bit (take n (drop at s))) (zero-add i) ∙ line_bit_part s n at i (omega arith))
+-- the library's `from_le_bytes` of k + 1 bytes
+from_le : (bytes : List ℕ) (k : ℕ) → sum_through (λ i. byte_worth i (get_or bytes i 0)) k ≡ bytes_at bytes 0 (suc k)
+unfolding bytes_at
+from_le bytes zero = omega arith
+from_le bytes (suc k) =
+    ap₂ (λ (x y : ℕ). x + get_or bytes (suc k) 0 * y) (from_le bytes k) (byte_power (suc k))
+    ∙ ap (λ (i : ℕ). bytes_at bytes 0 (suc k) + get_or bytes i 0 * 2 ^ (8 * suc k)) (sym (zero-add (suc k)))
+
+-- a part's bytes fit where all do
+part_fits : (s : List ℕ) → ((i : ℕ) → get_or s i 0 < 256) → (n at i : ℕ) → get_or (take n (drop at s)) i 0 < 256
+part_fits s sb n at i =
+    by_lt i n
+    (λ l. subst (λ (x : ℕ). x < 256) (sym (get_or-take n (drop at s) i 0 l ∙ get_or-drop at s i 0)) (sb (at + i)))
+    (λ l. omega (arith, get_or-eq_default (take n (drop at s)) 0 {n = i} (omega (arith, length-take n (drop at s)))))
+
+-- .. which are the bytes of s from at on: a number of that many bits
+pub loaded : (s : List ℕ) → ((i : ℕ) → get_or s i 0 < 256) → (at n k : ℕ) (bytes : List ℕ) → n ≡ suc k → bytes ≡ take n (drop at s)
+    → sum_through (λ i. byte_worth i (get_or bytes i 0)) k ≡ number (8 * suc k) (λ i. line_bit s (8 * at + i))
+loaded s sb at n k bytes e p =
+    let f : (i : ℕ) → get_or bytes i 0 < 256 = λ i. subst (λ (l : List ℕ). get_or l i 0 < 256) (sym p) (part_fits s sb n at i) in
+    from_le bytes k ∙ bytes_at_number bytes f 0 (suc k)
+    ∙ number_same (8 * suc k) (λ i. line_bit bytes (8 * 0 + i)) (λ i. line_bit s (8 * at + i))
+    (λ i l. ap (λ (x : List ℕ). line_bit x (8 * 0 + i)) p ∙ ap (line_bit (take n (drop at s))) (zero-add i) ∙ line_bit_part s n at i (omega arith))
 
 -- eight bytes and the byte after them, joined at any place
 pub join : (s : List ℕ) (pos at sh lo hi : ℕ) → pos ≡ 8 * at + sh → 0 < sh → sh < 8
@@ -144,17 +161,6 @@ put_more at n k us vs l l' m p q h e f =
     ∙ ap₂ (λ (i j : ℕ). take (at + i) (put at us l) ++ vs ++ drop (at + i + j) (put at us l)) (sym p) (sym q)
     ∙ put_put at us vs l (omega arith)
 
--- the eight bytes of a word: four of it, and four of its upper half
-pub halves_put : (at w : ℕ) (l l₁ l₂ : List ℕ) → at + 8 ≤ length l
-    → l₁ ≡ take at l ++ cut 8 (bit w) 4 ++ drop (at + 4) l
-    → l₂ ≡ take (at + 4) l₁ ++ cut 8 (bit (w / 4294967296)) 4 ++ drop (at + 4 + 4) l₁
-    → l₂ ≡ take at l ++ cut 8 (bit w) 8 ++ drop (at + 8) l
-unfolding cut
-halves_put at w l l₁ l₂ h e₁ e₂ =
-    let c : cut 8 (bit (w / 4294967296)) 4 ≡ cut 8 (λ i. bit w (32 + i)) 4 = cut_same 8 4 (bit (w / 4294967296)) (λ i. bit w (32 + i)) (λ i m. bit_shr w 32 i) in
-    put_more at 4 4 (cut 8 (bit w) 4) (cut 8 (bit (w / 4294967296)) 4) l l₁ l₂ refl refl (omega arith) e₁ e₂
-    ∙ ap (λ (x : List ℕ). take at l ++ x ++ drop (at + 8) l) (ap (λ (x : List ℕ). cut 8 (bit w) 4 ++ x) c ∙ sym (cut_add 8 4 4 (bit w)))
-
 set_put : (l : List ℕ) (i x : ℕ) → i < length l → set l i x ≡ take i l ++ (x ∷ []) ++ drop (i + 1) l
 set_put l i x h =
     set_split l i x h ∙ ap (λ (n : ℕ). take i l ++ x ∷ drop n l) (sym (add-one i)) ∙ sym (append_snoc (take i l) x (drop (i + 1) l))
@@ -178,22 +184,6 @@ words_put at w x y z b l l₁ l₂ l₃ l₄ h e₁ e₂ e₃ e₄ =
     let m : length l₄ ≡ length l = ap length p₄ ∙ length_put at (c₀ ++ c₁ ++ c₂ ++ c₃) l (omega arith) in
     put_more at 32 1 (c₀ ++ c₁ ++ c₂ ++ c₃) (b ∷ []) l l₄ (set l₄ (at + 32) b) refl refl (omega arith) p₄ (set_put l₄ (at + 32) b (omega arith))
 
--- ---- a run of stores at at + k, at + k + 1, ..
-unfoldable pub run : List ℕ → ℕ → ℕ → List ℕ → List ℕ
-run l at k [] = l
-run l at k (v ∷ vs) = run (set l (at + k) v) at (suc k) vs
-
-run_sets : (vs l : List ℕ) (at k : ℕ) → run l at k vs ≡ sets l (at + k) vs
-unfolding run
-run_sets [] l at k = refl
-run_sets (v ∷ vs) l at k =
-    run_sets vs (set l (at + k) v) at (suc k) ∙ ap (λ (i : ℕ). sets (set l (at + k) v) i vs) (add-suc at k)
-
--- such a run puts its values there
-pub run_eq : (vs l : List ℕ) (at : ℕ) → at + length vs ≤ length l → run l at 0 vs ≡ put at vs l
-run_eq vs l at h =
-    run_sets vs l at 0 ∙ ap (λ (i : ℕ). sets l i vs) (add-zero at) ∙ sets-eq vs l at h
-
 -- ---- the bytes of a word
 pub byte_is : (w j : ℕ) → number 8 (λ i. bit w (j + i)) ≡ w / 2 ^ j % 2 ^ 8
 byte_is w j =
@@ -215,6 +205,25 @@ cut_bytes w j (suc k) =
 -- .. and from bit 0 on
 pub cut_word : (w k : ℕ) → cut 8 (bit w) k ≡ bytes_from w 0 k
 cut_word w k = cut_same 8 k (bit w) (λ i. bit w (0 + i)) (λ i l. ap (bit w) (sym (zero-add i))) ∙ cut_bytes w 0 k
+
+-- the library's `to_le_bytes` gives them
+pub to_le : (w : ℕ) → bytes_low_first 0 8 w ≡ cut 8 (bit w) 8
+unfolding bytes_from
+to_le w = ap (λ (x : ℕ). x % 256 ∷ bytes_from w 8 7) (sym (div-one w)) ∙ sym (cut_word w 8)
+
+-- .. and the first four of them
+pub to_le_half : (w : ℕ) → take 4 (bytes_low_first 0 8 w) ≡ cut 8 (bit w) 4
+unfolding bytes_from
+to_le_half w = ap (λ (x : ℕ). x % 256 ∷ bytes_from w 8 3) (sym (div-one w)) ∙ sym (cut_word w 4)
+
+-- a part of the room with n bytes in its place
+pub part_put : (room part bytes : List ℕ) (at n : ℕ) → part ≡ bytes → take at room ++ (part ++ drop (at + n - at) (drop at room)) ≡ take at room ++ bytes ++ drop (at + n) room
+part_put room part bytes at n e =
+    let f : at + n - at ≡ n = omega arith in
+    let g : n + at ≡ at + n = omega arith in
+    ap₂ (λ (x : List ℕ) (k : ℕ). take at room ++ (x ++ drop k (drop at room))) e f
+    ∙ ap (λ (x : List ℕ). take at room ++ (bytes ++ x)) (drop-drop n at room)
+    ∙ sym (append_assoc (take at room) bytes (drop (at + n) room))
 
 -- ---- a block's 66 bits
 -- bits 0 and 1 of a block are its header

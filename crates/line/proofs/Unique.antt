@@ -7,9 +7,6 @@ use Rattle.bits.specs.Bits.{bit, number, line_bit, stream_bit, cut}
 use Rattle.line.specs.BlockNumber.{block_number}
 use Rattle.line.specs.declared.Block.{Block}
 
-pub wide_unique : (x r s : ℕ) → (r ≡ x) × (r < 256) → (s ≡ x) × (s < 256) → r ≡ s
-wide_unique x r s p q = p.0 ∙ sym q.0
-
 pub load_half_unique : (line : List ℕ) (at r s : ℕ) → (r ≡ number 32 (λ i. line_bit line (8 * at + i))) × (r < 4294967296)
     → (s ≡ number 32 (λ i. line_bit line (8 * at + i))) × (s < 4294967296) → r ≡ s
 load_half_unique line at r s p q = p.0 ∙ sym q.0

@@ -2,7 +2,7 @@
 use Prim.Native.Nat.{ℕ, ◌+◌, ◌-◌, ◌*◌, ◌/◌, ◌%◌, ◌≤◌, ◌<◌}
 use mathlib.Core.Path.{◌≡◌, refl, sym, ap, ◌∙◌}
 use mathlib.Core.Bool.{Bool, true, false}
-use mathlib.Core.Logic.{◌≢◌}
+use mathlib.Core.Logic.{◌⊎◌, inl, inr}
 use mathlib.Core.List.{List}
 use native.Mathlib.Omega.{arith}
 use lib.Bits.{bit_or, bit_xor, and_le_l, and_le_r, or_add_and, xor_add_and}
@@ -11,24 +11,24 @@ use Rattle.bits.specs.Bits.{bit, line_bit}
 use Rattle.bits.proofs.Laws.{number_lt}
 use Rattle.bits.proofs.Lists.{line_bit_lt}
 use Rattle.block.specs.declared.Kind.{Kind}
-use Rattle.block.specs.declared.Kind.TheVariants as Kind
 use Rattle.scrambler.specs.Scrambler.{descrambled, line_after}
-use Rattle.diagrams.specs.Diagram.{diagram_of, after_idle, after_data, after_error, after_low, state_number}
+use Rattle.diagrams.specs.Diagram.{diagram_of, after_idle, after_data, after_error, after_low}
 use Rattle.diagrams.specs.declared.State.{State}
 use Rattle.diagrams.specs.declared.State.TheVariants.{Init, Control, Data, Terminate, Error, LowPower}
 use Rattle.blocks.specs.Blocks.{header_at, payload_at, headers_at, Fours}
 use Rattle.blocks.specs.declared.Four.{Four}
 use Rattle.receiving.specs.Machine.{valid_of}
+use Rattle.receiving.specs.Receive.{errs}
 use Rattle.receiving.specs.Loop.{Under}
 use Rattle.lock_steps.specs.InLock.{InLock, Comes, Steps}
 use Rattle.lock_groups.specs.FourInLock.{StepsFour, AllIdle, Ahead}
 use Rattle.receiving.specs.declared.Progress.{Progress}
-use Rattle.receiving.proofs.Stretching.{turns_more}
+use Rattle.receiving.proofs.Stretching.{never, turns_more}
 
 -- ---- where a block that is held goes
 
 -- only what a Terminate does depends on what follows
-pub goes_on_lem : (t : State) → state_number t ≢ 4 → (s : State) (k : Kind) → diagram_of s k false ≡ t → (e : Bool) → diagram_of s k e ≡ t
+pub goes_on_lem : (t : State) → errs t ≡ false → (s : State) (k : Kind) → diagram_of s k false ≡ t → (e : Bool) → diagram_of s k e ≡ t
 unfolding diagram_of after_idle after_data after_error after_low
 goes_on_lem t n Init k q e = q
 goes_on_lem t n Control k q e = q
@@ -37,13 +37,13 @@ goes_on_lem t n LowPower k q e = q
 goes_on_lem t n Data Kind.D q e = q
 goes_on_lem t n Data Kind.C q e = q
 goes_on_lem t n Data Kind.S q e = q
-goes_on_lem t n Data Kind.T q e = absurd (n (ap state_number (sym q)))
+goes_on_lem t n Data Kind.T q e = never (sym n ∙ ap errs (sym q))
 goes_on_lem t n Data Kind.E q e = q
 goes_on_lem t n Data Kind.LI q e = q
 goes_on_lem t n Error Kind.D q e = q
 goes_on_lem t n Error Kind.C q e = q
 goes_on_lem t n Error Kind.S q e = q
-goes_on_lem t n Error Kind.T q e = absurd (n (ap state_number (sym q)))
+goes_on_lem t n Error Kind.T q e = never (sym n ∙ ap errs (sym q))
 goes_on_lem t n Error Kind.E q e = q
 goes_on_lem t n Error Kind.LI q e = q
 
@@ -78,6 +78,21 @@ data_valid = refl
 pub control_valid : valid_of 1 ≡ true
 unfolding valid_of bit
 control_valid = refl
+
+-- the header of a stretch is one of them
+pub stretch_valid : {B : Type 0} (h : ℕ) → (h ≡ 2) ⊎ ((h ≡ 1) × B) → valid_of h ≡ true
+stretch_valid h (inl e) = ap valid_of e ∙ data_valid
+stretch_valid h (inr p) = ap valid_of p.0 ∙ control_valid
+
+-- .. and four of it make 85 times it
+pub stretch_digits : {B : Type 0} (h : ℕ) → (h ≡ 2) ⊎ ((h ≡ 1) × B) → (h ≡ 85 * h % 4) × (h ≡ 85 * h / 4 % 4) × (h ≡ 85 * h / 16 % 4) × (h ≡ 85 * h / 64 % 4)
+stretch_digits h (inl e) = (omega arith, omega arith, omega arith, omega arith)
+stretch_digits h (inr p) = (omega (arith, p.0), omega (arith, p.0), omega (arith, p.0), omega (arith, p.0))
+
+-- what is known of idles
+pub of_idles : {A B C D : Type 0} → (C → D) → A ⊎ (B × C) → A ⊎ (B × D)
+of_idles f (inl a) = inl a
+of_idles f (inr p) = inr (p.0, f p.1)
 
 -- four blocks with one header come, one after the other
 module _ (line r₀ : List ℕ) (p₀ : Progress) (f : Four) (h n : ℕ) (ok : valid_of h ≡ true) (digits : (h ≡ n % 4) × (h ≡ n / 4 % 4) × (h ≡ n / 16 % 4) × (h ≡ n / 64 % 4))
@@ -183,11 +198,6 @@ pub ahead_four : (line : List ℕ) (pos : ℕ) (f : Four) → Fours line pos f �
 ahead_four line pos f fs =
     let e = each_header line pos f.headers (sym fs.headers) in
     record { a = λ l. (e.0, fs.a); b = λ l. (e.1, fs.b); c = λ l. (e.2, fs.c); d = λ l. (e.3, fs.d) }
-
--- .. or none
-pub ahead_none : (line : List ℕ) (pos : ℕ) (f : Four) → Ahead line pos 0 f
-ahead_none line pos f =
-    record { a = λ l. absurd (omega (arith, l)); b = λ l. absurd (omega (arith, l)); c = λ l. absurd (omega (arith, l)); d = λ l. absurd (omega (arith, l)) }
 
 -- .. or one less after the first
 pub ahead_rest : (line : List ℕ) (pos n : ℕ) (f g : Four) → Ahead line pos n f → g.headers ≡ f.headers / 4 → g.a ≡ f.b → g.b ≡ f.c → g.c ≡ f.d → n ≤ 4

@@ -1,20 +1,21 @@
 // Four blocks in lock: four data blocks, or four of idles, at once, any others that are decoded at once one after the other.
 #![tactic(auto)]
 
-ghost use Rattle.std.specs.Prelude.{◌≡◌, true, false, ◌+◌, ◌*◌, ◌/◌, ◌^◌, ◌≤◌, ◌<◌, length};
+ghost use Rattle.std.specs.Prelude.{◌≡◌, true, false, ◌+◌, ◌*◌, ◌/◌, ◌^◌, ◌≤◌, ◌<◌, ◌⊎◌, length};
 ghost use Rattle.block.specs.Block.{kind_in};
 ghost use Rattle.diagrams.specs.Diagram.{diagram_of};
-ghost use Rattle.diagrams.specs.declared.State.TheVariants.{Control, Data};
 ghost use Rattle.blocks.specs.Blocks.{Fours};
+ghost use Rattle.receiving.specs.Receive.{errs};
 ghost use Rattle.receiving.specs.Loop.{Stretches};
-ghost use Rattle.lock_steps.specs.InLock.{InLock, GoesTo, ran_of, MoreAhead};
+ghost use Rattle.lock_steps.specs.InLock.{InLock, GoesTo, ran_of, MoreAhead, stretch_state};
 ghost use Rattle.lock_groups.specs.FourInLock.{StepsFour, AllIdle};
 
 use blocks::Four;
+use decoding::kind_in;
 use diagram_steps::diagram_step;
 use diagrams::State;
 use line::Block;
-use lock_steps::{Run, data_step, idle_step, single};
+use lock_steps::{Run, single, stretch_step};
 use receiving::Progress;
 use scrambler::descramble;
 
@@ -22,40 +23,15 @@ use scrambler::descramble;
 fn state_next(s: Run) -> State
     ensures { result ≡ diagram_of s.state (kind_in s.class) false }
 {
-    let state = s.state;
-    let class = s.class;
-    diagram_step(state, decoding::kind_in(class), false)
+    diagram_step(s.state, kind_in(s.class), false)
 }
 
-// Whether the block held goes to state D, whatever follows.
-fn goes_to_data(s: Run) -> bool
-    ensures { result ≡ true → GoesTo Data s.state s.class }
+// Whether the block held goes to this state, whatever follows.
+fn goes_to(s: Run, state: State) -> bool
+    requires { errs state ≡ false }
+    ensures { result ≡ true → GoesTo state s.state s.class }
 {
-    match state_next(s) {
-        State::Data => true,
-        State::Init | State::Control | State::Terminate | State::Error | State::LowPower => false,
-    }
-}
-
-// Whether it goes to state C.
-fn goes_to_control(s: Run) -> bool
-    ensures { result ≡ true → GoesTo Control s.state s.class }
-{
-    match state_next(s) {
-        State::Control => true,
-        State::Init | State::Data | State::Terminate | State::Error | State::LowPower => false,
-    }
-}
-
-// Four of them.
-fn data_four(line: &[u8], room: &mut [u8], p: Progress, s: Run, f: Four) -> Run
-    requires { (length line.now ≤ 825000) × MoreAhead line.now room.old (ran_of p s) 4 × Fours line.now (p.pos + 66 * s.count) f × (f.headers ≡ 0xaa) × GoesTo Data s.state s.class }
-    ensures { StepsFour line.now room.old room.new (ran_of p s) (ran_of p result) }
-{
-    let a = data_step(line, room, p, s, f.a);
-    let b = data_step(line, room, p, a, f.b);
-    let c = data_step(line, room, p, b, f.c);
-    data_step(line, room, p, c, f.d)
+    state_next(s) == state
 }
 
 // Whether four payloads are descrambled to eight idles each.
@@ -70,15 +46,15 @@ fn all_idle(f: Four, history: u64) -> bool
     (a.word ^ 0x1e) | (b.word ^ 0x1e) | (c.word ^ 0x1e) | (d.word ^ 0x1e) == 0
 }
 
-// Four of them.
-fn idle_four(line: &[u8], room: &mut [u8], p: Progress, s: Run, f: Four) -> Run
-    requires { (length line.now ≤ 825000) × MoreAhead line.now room.old (ran_of p s) 4 × Fours line.now (p.pos + 66 * s.count) f × (f.headers ≡ 0x55) × GoesTo Control s.state s.class × AllIdle s.history f }
+// Four blocks of a stretch.
+fn four<const HEADER: u64>(line: &[u8], room: &mut [u8], p: Progress, s: Run, f: Four) -> Run
+    requires { (length line.now ≤ 825000) × MoreAhead line.now room.old (ran_of p s) 4 × Fours line.now (p.pos + 66 * s.count) f × (f.headers ≡ 85 * HEADER) × GoesTo (stretch_state HEADER) s.state s.class × ((HEADER ≡ 2) ⊎ ((HEADER ≡ 1) × AllIdle s.history f)) }
     ensures { StepsFour line.now room.old room.new (ran_of p s) (ran_of p result) }
 {
-    let a = idle_step(line, room, p, s, f.a);
-    let b = idle_step(line, room, p, a, f.b);
-    let c = idle_step(line, room, p, b, f.c);
-    idle_step(line, room, p, c, f.d)
+    let a = stretch_step::<HEADER>(line, room, p, s, f.a);
+    let b = stretch_step::<HEADER>(line, room, p, a, f.b);
+    let c = stretch_step::<HEADER>(line, room, p, b, f.c);
+    stretch_step::<HEADER>(line, room, p, c, f.d)
 }
 
 // The three blocks after the first of four; the last has no meaning.
@@ -90,7 +66,7 @@ fn rest(f: Four) -> Four
         a: f.b,
         b: f.c,
         c: f.d,
-        d: f.d,
+        ..f
     }
 }
 
@@ -101,16 +77,17 @@ fn each(line: &[u8], room: &mut [u8], p: Progress, start: Run, four: Four) -> Ru
 {
     let mut s = start;
     let mut f = four;
-    let mut left: u64 = 4;
-    while 0 < left {
+    for _ in 0..4u64 {
         let before = s.count;
         let b = Block {
             header: f.headers % 4,
             payload: f.a,
         };
         s = single(line, room, p, s, b);
+        if s.count == before {
+            break;
+        }
         f = rest(f);
-        left = if before < s.count { left - 1 } else { 0 };
     }
     s
 }
@@ -120,17 +97,11 @@ pub fn group(line: &[u8], room: &mut [u8], p: Progress, s: Run, f: Four) -> Run
     requires { (length line.now ≤ 825000) × MoreAhead line.now room.old (ran_of p s) 4 × Fours line.now (p.pos + 66 * s.count) f }
     ensures { Stretches line.now room.old room.new (ran_of p s) (ran_of p result) × InLock (ran_of p result) }
 {
-    if f.headers == 0xaa {
-        if goes_to_data(s) {
-            return data_four(line, room, p, s, f);
-        }
+    if f.headers == 0xaa && goes_to(s, State::Data) {
+        return four::<2>(line, room, p, s, f);
     }
-    if f.headers == 0x55 {
-        if goes_to_control(s) {
-            if all_idle(f, s.history) {
-                return idle_four(line, room, p, s, f);
-            }
-        }
+    if f.headers == 0x55 && goes_to(s, State::Control) && all_idle(f, s.history) {
+        return four::<1>(line, room, p, s, f);
     }
     each(line, room, p, s, f)
 }

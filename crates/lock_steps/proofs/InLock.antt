@@ -1,5 +1,6 @@
 -- Blocks with valid headers in lock, and runs of them. Assumes nothing.
 use Prim.Native.Nat.{ℕ, ◌+◌, ◌*◌, ◌%◌, ◌≤◌, ◌<◌}
+use mathlib.Core.Logic.{◌⊎◌, inl, inr}
 use mathlib.Core.Path.{◌≡◌, refl, sym, ap, ap₂, ◌∙◌, subst}
 use mathlib.Core.Bool.{Bool, true, false, cond, not, ◌&&◌}
 use mathlib.Core.List.{List, ◌++◌}
@@ -15,9 +16,7 @@ use Rattle.block.proofs.Classes.{class_no_header}
 use Rattle.block.specs.declared.Edition.{Edition}
 use Rattle.block.specs.declared.Edition.TheVariants.{Old, New}
 use Rattle.block.specs.declared.Kind.{Kind}
-use Rattle.block.specs.declared.Kind.TheVariants as Kind
 use Rattle.block.specs.declared.Class.{Class}
-use Rattle.block.specs.declared.Class.TheVariants as Class
 use Rattle.scrambler.specs.Scrambler.{line_after}
 use Rattle.carrying.specs.Carrying.{Takes}
 use Rattle.carrying.specs.declared.Taken.{Taken}
@@ -35,7 +34,7 @@ use Rattle.receiving.specs.Receive.{lets_end, state_of, answer_in, decodes, errs
 use Rattle.receiving.specs.Counted.{counted, hand_out, decoded_out}
 use Rattle.receiving.specs.Loop.{tested_in, Turns, held_bytes}
 use Rattle.receiving.specs.Ranges.{InRange}
-use Rattle.lock_steps.specs.InLock.{InLock, GoesTo, Comes, Is, advanced_of, ran_of, Steps}
+use Rattle.lock_steps.specs.InLock.{InLock, GoesTo, Comes, Is, stretch_state, advanced_of, ran_of, Steps}
 use Rattle.lock_steps.specs.declared.Run.{Run}
 use Rattle.receiving.specs.declared.Link.{Link}
 use Rattle.receiving.specs.declared.Held.{Held}
@@ -44,7 +43,7 @@ use Rattle.receiving.specs.declared.Progress.{Progress}
 use Rattle.receiving.proofs.Counted.{free, counted_is, one_more, out_decoded}
 use Rattle.receiving.proofs.Settle.{as_decoded, held_put, held_ten}
 use Rattle.receiving.proofs.Turning.{turn_block, held_fits}
-use Rattle.receiving.proofs.Stretching.{never, whole_block, whole_taken}
+use Rattle.receiving.proofs.Stretching.{never, block_with, whole_block, whole_taken}
 
 -- ---- where a block that is held goes
 
@@ -131,7 +130,7 @@ module _ (line room : List ℕ) (p : Progress) (header payload : ℕ) (cm : Come
         let have : length (held_bytes p.receiver.have p.receiver.state p.receiver.held (lets_end (tested_in holds))) ≡ 10 =
         ap (λ (b : Bool). length (held_bytes b p.receiver.state p.receiver.held (lets_end (tested_in holds)))) cm.lock.have
         ∙ held_ten p.receiver.state p.receiver.held (lets_end (tested_in holds)) in
-        omega (arith, have, held_fits line room p cm.under takes taken_is refl linked holds link_is held_is)
+        omega (arith, have, held_fits line room p cm.under takes taken_is (block_with header payload) refl linked holds link_is held_is)
 
     -- one turn
     module _ (s : State) (w : Vector) (n : Handed) (room' : List ℕ)
@@ -146,7 +145,7 @@ module _ (line room : List ℕ) (p : Progress) (header payload : ℕ) (cm : Come
       turn_one =
           let r = p.receiver in
           let put = held_put r.have r.state r.held (lets_end (tested_in holds)) room room' p.at p.handed n s w cm.lock.have es ew er en in
-          turn_block line room p cm.under takes taken_is refl linked holds link_is held_is s (p.at + 10) _ room' put.0 put.1 put.2 n put.3 counts_are
+          turn_block line room p cm.under takes taken_is (block_with header payload) refl linked holds link_is held_is s (p.at + 10) _ room' put.0 put.1 put.2 n put.3 counts_are
 
       pub step_one : Steps line room room' payload p next
       step_one =
@@ -189,6 +188,22 @@ idle_block New = (refl, refl)
 
 pub idle_answer : (ed : Edition) (x : ℕ) → x ≡ 0x1e → (Class.C ≡ class_of ed 1 x) × (two_words 15 0x07070707 15 0x07070707 ≡ decoded ed 1 x)
 idle_answer ed x e = subst (λ (x : ℕ). (Class.C ≡ class_of ed 1 x) × (two_words 15 0x07070707 15 0x07070707 ≡ decoded ed 1 x)) (sym e) (idle_block ed)
+
+-- ---- a stretch of blocks, by their header
+
+-- it stays in its state
+pub stays_data : (h : ℕ) (s : State) (k : Class) → h ≡ 2 → s ≡ Data → k ≡ Class.D → GoesTo (stretch_state h) s k
+unfolding GoesTo
+stays_data h s k eh es ek = λ e. ap₂ (λ (s : State) (k : Class). diagram_of s (kind_in k) e) es ek ∙ data_data e ∙ sym (ap stretch_state eh)
+
+pub stays_idle : (h : ℕ) (s : State) (k : Class) → h ≡ 1 → s ≡ Control → k ≡ Class.C → GoesTo (stretch_state h) s k
+unfolding GoesTo
+stays_idle h s k eh es ek = λ e. ap₂ (λ (s : State) (k : Class). diagram_of s (kind_in k) e) es ek ∙ control_control e ∙ sym (ap stretch_state eh)
+
+-- where they are not data blocks
+pub not_data : {A B : Type 0} → A ⊎ B → (A → ⊥) → B
+not_data (inl a) n = absurd (n a)
+not_data (inr b) n = b
 
 -- ---- one block, by the code's values
 

@@ -1,5 +1,5 @@
 -- A reviewer can skip this file. Blocks in lock: what one of them does, and where a run of them has come, in the words of Machine and Loop.
-use Rattle.std.specs.Prelude.{◌≡◌, Bool, true, false, cond, List, ℕ, ◌+◌, ◌*◌, ◌%◌, ◌<◌, ltb, length}
+use Rattle.std.specs.Prelude.{◌≡◌, Bool, true, false, cond, List, ℕ, ◌+◌, ◌*◌, ◌%◌, ◌<◌, eqb, ltb, length}
 use Rattle.block.specs.Block.{decoded, class_of, kind_in, is_error}
 use Rattle.block.specs.declared.Class.{Class}
 use Rattle.scrambler.specs.Scrambler.{descrambled, line_after}
@@ -9,6 +9,7 @@ use Rattle.lock.specs.Lock.{lock_of}
 use Rattle.lock.specs.Rate.{rate_of}
 use Rattle.diagrams.specs.Diagram.{diagram_of}
 use Rattle.diagrams.specs.declared.State.{State}
+use Rattle.diagrams.specs.declared.State.TheVariants.{Control, Data}
 use Rattle.blocks.specs.Blocks.{header_at, payload_at}
 use Rattle.receiving.specs.Machine.{valid_of}
 use Rattle.receiving.specs.Loop.{Under, Turns}
@@ -30,6 +31,10 @@ pub record InLock (p : Progress) : Type 0 where
 -- a block of this class goes from one state to another, whatever follows
 unfoldable pub GoesTo : (to from : State) → Class → Type 0
 GoesTo to from k = (e : Bool) → diagram_of from (kind_in k) e ≡ to
+
+-- the state that a stretch of blocks stays in, by their header: D of data blocks, C of blocks of eight idles
+abbrev pub stretch_state : ℕ → State
+stretch_state header = cond (eqb header 2) Data Control
 
 -- a block with a valid header comes next, and ends neither the line nor the window
 pub record Comes (line room : List ℕ) (p : Progress) (h x : ℕ) : Type 0 where

@@ -16,39 +16,14 @@ fn in_lock(p: Progress) -> bool
     ensures { result ≡ true → InLock p }
 {
     let r = p.receiver;
-    let carried = r.carried;
-    let link = r.link;
-    let lock = link.lock;
-    let rate = link.rate;
-    let held = r.held;
-    if r.skip {
-        return false;
-    }
-    if 0 < carried.count {
-        return false;
-    }
-    if 16 <= rate.invalid {
-        return false;
-    }
-    if rate.high {
-        return false;
-    }
-    if held.slipped {
-        return false;
-    }
-    if lock.locked {
-        if r.have {
-            return held.on;
-        }
-    }
-    false
-}
-
-// The smaller of two numbers.
-fn smaller(a: u64, b: u64) -> u64
-    ensures { (result ≤ a) × (result ≤ b) }
-{
-    if a < b { a } else { b }
+    !r.skip
+        && r.carried.count == 0
+        && r.link.rate.invalid < 16
+        && !r.link.rate.high
+        && !r.held.slipped
+        && r.link.lock.locked
+        && r.have
+        && r.held.on
 }
 
 // How many groups of four blocks the line has, with a byte to spare after each, and the window too.
@@ -56,11 +31,8 @@ fn groups_ahead(line: &[u8], p: Progress) -> u64
     requires { (length line.now ≤ 825000) × (p.pos < 8 * length line.now) × (p.receiver.link.rate.blocks < 19531) }
     ensures { Groups (length line.now) p result }
 {
-    let r = p.receiver;
-    let link = r.link;
-    let rate = link.rate;
     let here = ((line.len() - p.pos / 8 - 1) / 33) as u64;
-    smaller(here, (19530 - rate.blocks) / 4)
+    here.min((19530 - p.receiver.link.rate.blocks) / 4)
 }
 
 // As many blocks in lock as come in groups of four and are decoded at once.
@@ -68,15 +40,14 @@ fn blocks_in_lock(line: &[u8], room: &mut [u8], p: Progress) -> Progress
     requires { (length line.now ≤ 825000) × Under line.now room.old p × InLock p × (p.pos < 8 * length line.now) }
     ensures { Stretches line.now room.old room.new p result }
 {
-    let sh = p.pos % 8;
-    let mut from = p.pos / 8;
     let mut s = starting(p);
-    let mut left = groups_ahead(line, p);
-    while 0 < left {
+    for i in 0..groups_ahead(line, p) {
         let before = s.count;
-        s = group(line, room, p, s, four_at(line, from, sh));
-        from = from + 33;
-        left = if before + 4 == s.count { left - 1 } else { 0 };
+        let four = four_at(line, p.pos / 8 + 33 * i as usize, p.pos % 8);
+        s = group(line, room, p, s, four);
+        if s.count != before + 4 {
+            break;
+        }
     }
     ran(p, s)
 }

@@ -1,6 +1,6 @@
 -- The last step, told apart: what both programs write in each case.
 use Prim.Native.Nat.{ℕ, ◌+◌, ◌-◌, ◌≤◌}
-use mathlib.Core.Path.{◌≡◌, refl, sym, ap, subst, ◌∙◌}
+use mathlib.Core.Path.{◌≡◌, sym, ap, subst, ◌∙◌}
 use mathlib.Core.List.{List, [], ◌++◌}
 use native.Mathlib.Omega.{arith}
 use lib.ListN.{length, take, length-append, length-take}
@@ -17,6 +17,9 @@ use Rattle.display.specs.Display.{input_failed_line}
 use Rattle.display.proofs.Laws.{refused_length}
 use Rattle.gather.specs.declared.Step.{Step}
 use Rattle.gather.specs.declared.Step.TheVariants as Case
+use Rattle.gather.specs.declared.Stop.{Stop}
+use Rattle.gather.specs.declared.Stop.TheVariants as Why
+use Rattle.std.specs.Prelude.{Result, Ok, Err}
 use Rattle.programs.specs.Programs.{output_of, gathered_of}
 
 -- A body at the start of a slice is what was put there.
@@ -47,36 +50,32 @@ output_short p (stop n b) h = omega (arith, refused_length n, p.room)
 output_short p (failed b) h = omega (arith, p.room)
 output_short p (more b) h = omega (arith, p.room)
 
--- What is written where the records did not end.
-abbrev pub without_end : Step → List ℕ
-without_end o = output_of (λ bytes. input_failed_line) (gathered_of o [])
+-- What is written where no more is gathered.
+abbrev pub stopped : Stop → List ℕ
+stopped s = output_of (λ bytes. input_failed_line) (gathered_of (Err s) [])
 
-pub by_step : (o o' : Step) (out : List ℕ) (r : ℕ) (exit : List ℕ) → o ≡ o' → PutsText 0 (without_end o') out r exit → PutsText 0 (without_end o) out r exit
-by_step o o' out r exit e w = subst (λ (x : Step). PutsText 0 (without_end x) out r exit) (sym e) w
-
-module _ {text : List ℕ → List ℕ} {most longest : ℕ} (p : Program text most longest) (o : Step) (store out exit : List ℕ) (r : ℕ) (room : longest ≤ length out) where
+module _ {text : List ℕ → List ℕ} {most longest : ℕ} (p : Program text most longest) (o : Result Step Stop) (store out exit : List ℕ) (r : ℕ) (room : longest ≤ length out) where
   -- The text is written, and the answer counts its bytes.
   abbrev Output : Type 0
   Output = PutsText 0 (output_of text (gathered_of o store)) out r exit × IsPrefixLen r exit
 
   -- By the step.
-  output : (o' : Step) → length (bytes_in (gathered_of o' store)) ≤ most → o ≡ o' → PutsText 0 (output_of text (gathered_of o' store)) out r exit → Output
+  output : (o' : Result Step Stop) → length (bytes_in (gathered_of o' store)) ≤ most → o ≡ o' → PutsText 0 (output_of text (gathered_of o' store)) out r exit → Output
   output o' h e w =
       let s = output_short p (gathered_of o' store) h in
       let l = puts_length 0 r (output_of text (gathered_of o' store)) out exit w (omega arith) in
       let b : r ≤ length exit = omega (arith, w.ends) in
-      (subst (λ (x : Step). PutsText 0 (output_of text (gathered_of x store)) out r exit) (sym e) w, (b, sym (length-take-le r exit b)))
+      (subst (λ (x : Result Step Stop). PutsText 0 (output_of text (gathered_of x store)) out r exit) (sym e) w, (b, sym (length-take-le r exit b)))
 
   -- The records ended.
-  pub was_done : (n : ℕ) (body : List ℕ) → length store ≤ most → o ≡ Case.Done n → body ≡ body_of store 0 n → PutsText 0 (text body) out r exit → Output
-  was_done n body fits e b w = output (Case.Done n) (omega (arith, body_short store n)) e (subst (λ (x : List ℕ). PutsText 0 (text x) out r exit) b w)
+  pub was_done : (n : ℕ) (body : List ℕ) → length store ≤ most → o ≡ Ok (Case.Done n) → body ≡ body_of store 0 n → PutsText 0 (text body) out r exit → Output
+  was_done n body fits e b w = output (Ok (Case.Done n)) (omega (arith, body_short store n)) e (subst (λ (x : List ℕ). PutsText 0 (text x) out r exit) b w)
 
-  -- They did not: what is written then is in no text, and nothing was gathered.
-  pub was_other : ((n : ℕ) → o ≡ Case.Done n → ⊥) → PutsText 0 (without_end o) out r exit → Output
-  was_other other w = by o refl
-    where
-      by : (o' : Step) → o ≡ o' → Output
-      by (Case.Done n) e = absurd (other n e)
-      by (Case.Refused why) e = output (Case.Refused why) (omega arith) e (subst (λ (x : Step). PutsText 0 (without_end x) out r exit) e w)
-      by Case.Failed e = output Case.Failed (omega arith) e (subst (λ (x : Step). PutsText 0 (without_end x) out r exit) e w)
-      by (Case.More n) e = output (Case.More n) (omega arith) e (subst (λ (x : Step). PutsText 0 (without_end x) out r exit) e w)
+  -- They did not, in all those turns.
+  pub was_more : (n : ℕ) → o ≡ Ok (Case.More n) → PutsText 0 input_failed_line out r exit → Output
+  was_more n e w = output (Ok (Case.More n)) (omega arith) e w
+
+  -- A refusal or a failed read: what is written then is in no text, and nothing was gathered.
+  pub was_stopped : (s : Stop) → o ≡ Err s → PutsText 0 (stopped s) out r exit → Output
+  was_stopped (Why.Refused why) e w = output (Err (Why.Refused why)) (omega arith) e w
+  was_stopped Why.Failed e w = output (Err Why.Failed) (omega arith) e w

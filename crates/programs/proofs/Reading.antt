@@ -10,6 +10,9 @@ use Rattle.gather.specs.Gather.{Gathered, more, done, stop, failed, bytes_in, tu
 use Rattle.gather.specs.File.{windows, gathered_after, gathered_from, Concluded, bytes_read}
 use Rattle.gather.specs.declared.Step.{Step}
 use Rattle.gather.specs.declared.Step.TheVariants as Case
+use Rattle.gather.specs.declared.Stop.{Stop}
+use Rattle.gather.specs.declared.Stop.TheVariants as Why
+use Rattle.std.specs.Prelude.{Result, Ok, Err}
 use Rattle.gather.proofs.File.{whole_file, file_read}
 use Rattle.display.specs.Display.{input_failed_line}
 use Rattle.input.specs.Read.{Gathers}
@@ -31,27 +34,27 @@ as_shown text (failed before) = refl
 as_shown text (more before) = refl
 
 -- The last step and the store tell where the gathering stands.
-by_turn : (step : Step) (entry exit : List ℕ) (g : Gathered) → turn_of step ≡ turn_in g → exit ≡ overlaid 0 (bytes_in g) entry → gathered_of step exit ≡ shown g
+by_turn : (step : Result Step Stop) (entry exit : List ℕ) (g : Gathered) → turn_of step ≡ turn_in g → exit ≡ overlaid 0 (bytes_in g) entry → gathered_of step exit ≡ shown g
 unfolding overlaid
-by_turn (Case.Done n) entry exit (done b) t s = let k : n ≡ length b = cc in ap done (body_first b (drop (0 + length b) entry) exit n s k)
-by_turn (Case.Done n) entry exit (more b) t s = cc
-by_turn (Case.Done n) entry exit (stop m b) t s = cc
-by_turn (Case.Done n) entry exit (failed b) t s = cc
-by_turn (Case.Refused why) entry exit (stop m b) t s = let k : number_of why ≡ m = cc in ap (λ (n : ℕ). stop n []) k
-by_turn (Case.Refused why) entry exit (done b) t s = cc
-by_turn (Case.Refused why) entry exit (more b) t s = cc
-by_turn (Case.Refused why) entry exit (failed b) t s = cc
-by_turn Case.Failed entry exit (failed b) t s = refl
-by_turn Case.Failed entry exit (more b) t s = cc
-by_turn Case.Failed entry exit (done b) t s = cc
-by_turn Case.Failed entry exit (stop m b) t s = cc
-by_turn (Case.More n) entry exit (more b) t s = refl
-by_turn (Case.More n) entry exit (done b) t s = cc
-by_turn (Case.More n) entry exit (stop m b) t s = cc
-by_turn (Case.More n) entry exit (failed b) t s = cc
+by_turn (Ok (Case.Done n)) entry exit (done b) t s = let k : n ≡ length b = cc in ap done (body_first b (drop (0 + length b) entry) exit n s k)
+by_turn (Ok (Case.Done n)) entry exit (more b) t s = cc
+by_turn (Ok (Case.Done n)) entry exit (stop m b) t s = cc
+by_turn (Ok (Case.Done n)) entry exit (failed b) t s = cc
+by_turn (Err (Why.Refused why)) entry exit (stop m b) t s = let k : number_of why ≡ m = cc in ap (λ (n : ℕ). stop n []) k
+by_turn (Err (Why.Refused why)) entry exit (done b) t s = cc
+by_turn (Err (Why.Refused why)) entry exit (more b) t s = cc
+by_turn (Err (Why.Refused why)) entry exit (failed b) t s = cc
+by_turn (Err Why.Failed) entry exit (failed b) t s = refl
+by_turn (Err Why.Failed) entry exit (more b) t s = cc
+by_turn (Err Why.Failed) entry exit (done b) t s = cc
+by_turn (Err Why.Failed) entry exit (stop m b) t s = cc
+by_turn (Ok (Case.More n)) entry exit (more b) t s = refl
+by_turn (Ok (Case.More n)) entry exit (done b) t s = cc
+by_turn (Ok (Case.More n)) entry exit (stop m b) t s = cc
+by_turn (Ok (Case.More n)) entry exit (failed b) t s = cc
 
 -- A program writes what the definition says of the reads that were made, by the promise of the loop over the input.
-pub by_reads : (text : List ℕ → List ℕ) (kind most : ℕ) (entry exit out out' : List ℕ) (step : Step) (r : ℕ) → length entry ≡ most
+pub by_reads : (text : List ℕ → List ℕ) (kind most : ℕ) (entry exit out out' : List ℕ) (step : Result Step Stop) (r : ℕ) → length entry ≡ most
     → Gathers kind entry step exit → PutsText 0 (output_of text (gathered_of step exit)) out r out' → PutsForReads kind most (output_of text) out r out'
 by_reads text kind most entry exit out out' step r l p w =
     let g = gathered_after body_limit kind (length entry) p.reads (more []) in

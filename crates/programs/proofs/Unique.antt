@@ -9,14 +9,16 @@ use Rattle.records.specs.Record.{body_limit}
 use Rattle.gather.specs.Gather.{Gathered, more, RecordRead}
 use Rattle.gather.specs.File.{gathered_after}
 use Rattle.gather.specs.declared.Step.{Step}
+use Rattle.gather.specs.declared.Stop.{Stop}
+use Rattle.std.specs.Prelude.{Result}
 use Rattle.programs.specs.Programs.{sender_output, receiver_output, gathered_of, PutsForReads}
 
 module _ (entry : List ℕ) (r r' : ℕ) (exit exit' : List ℕ) where
-  pub sender_output_unique : (step : Step) (vectors : List ℕ)
+  pub sender_output_unique : (step : Result Step Stop) (vectors : List ℕ)
       → PutsText 0 (sender_output (gathered_of step vectors)) entry r exit → PutsText 0 (sender_output (gathered_of step vectors)) entry r' exit' → (r ≡ r') × (exit ≡ exit')
   sender_output_unique step vectors = puts_unique 0 (sender_output (gathered_of step vectors)) entry r r' exit exit'
 
-  pub receiver_output_unique : (step : Step) (line : List ℕ)
+  pub receiver_output_unique : (step : Result Step Stop) (line : List ℕ)
       → PutsText 0 (receiver_output (gathered_of step line)) entry r exit → PutsText 0 (receiver_output (gathered_of step line)) entry r' exit' → (r ≡ r') × (exit ≡ exit')
   receiver_output_unique step line = puts_unique 0 (receiver_output (gathered_of step line)) entry r r' exit exit'
 

@@ -1,5 +1,5 @@
 -- Document 01, 'The two programs': the bytes that each writes, by what it gathered. Both stay with the old edition, number 0 (9/13).
-use Rattle.std.specs.Prelude.{ℕ, List, [], ◌++◌}
+use Rattle.std.specs.Prelude.{ℕ, List, [], ◌++◌, Result, Ok, Err}
 use Rattle.refusals.specs.Number.{number_of}
 use Rattle.putting.specs.Overlaid.{PutsText}
 use Rattle.records.specs.Record.{body_limit, body_of}
@@ -7,6 +7,8 @@ use Rattle.gather.specs.Gather.{Gathered, more, done, stop, failed, RecordRead}
 use Rattle.gather.specs.File.{gathered_from, gathered_after, InTurn}
 use Rattle.gather.specs.declared.Step.{Step}
 use Rattle.gather.specs.declared.Step.TheVariants as Case
+use Rattle.gather.specs.declared.Stop.{Stop}
+use Rattle.gather.specs.declared.Stop.TheVariants as Why
 use Rattle.display.specs.Display.{line_records, hex_lines, summary_lines, refused_line, input_failed_line}
 use Rattle.block.specs.declared.Edition.TheVariants.{Old}
 use Rattle.transmit.specs.Send.{sent_line}
@@ -62,11 +64,11 @@ unfoldable pub receiver_on : (file : List ℕ) → List ℕ
 receiver_on file = receiver_output (gathered_from body_limit 2 line_limit file)
 
 -- what was gathered, by the last step and the store
-abbrev pub gathered_of : Step → (store : List ℕ) → Gathered
-gathered_of (Case.Done n) store = done (body_of store 0 n)
-gathered_of (Case.Refused why) store = stop (number_of why) []
-gathered_of Case.Failed store = failed []
-gathered_of (Case.More n) store = more []
+abbrev pub gathered_of : Result Step Stop → (store : List ℕ) → Gathered
+gathered_of (Ok (Case.Done n)) store = done (body_of store 0 n)
+gathered_of (Ok (Case.More n)) store = more []
+gathered_of (Err (Why.Refused why)) store = stop (number_of why) []
+gathered_of (Err Why.Failed) store = failed []
 
 -- what reading and writing leave of a program: these reads were made in turn, and this is what is written for them
 pub record PutsForReads (kind most : ℕ) (output : Gathered → List ℕ) (entry : List ℕ) (r : ℕ) (exit : List ℕ) : Type 0 where

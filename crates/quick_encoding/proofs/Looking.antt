@@ -1,11 +1,12 @@
 -- Blocks that are known by a look at all eight octets.
 use mathlib.Core.Path.{◌≡◌, refl, ◌∙◌, ap, ap₂, subst, subst₂, sym}
-use mathlib.Core.Bool.{true, false}
+use mathlib.Core.Bool.{false}
 use mathlib.Core.List.{[], ◌∷◌}
 use Prim.Native.Nat.{ℕ, zero, suc, ◌+◌, ◌-◌, ◌*◌, ◌/◌, ◌%◌, ◌^◌, ◌<◌, ◌≤◌}
 use native.Mathlib.Omega.{arith}
 use lib.Dec.{lit<}
 use lib.Pow.{shr-shr}
+use Rattle.std.specs.Prelude.{Some}
 use Rattle.block.specs.declared.Edition.{Edition}
 use Rattle.block.specs.declared.Edition.TheVariants.{Old, New}
 use Rattle.block.specs.declared.Kind.{Kind}
@@ -13,10 +14,8 @@ use Rattle.block.specs.declared.Kind.TheVariants.{D, C, S, T, E}
 use Rattle.block.specs.Block.{Slot, Control, Data, Set, Start, Terminate, kind_for, code_of, sent_code, carries, carrier, error_payload}
 use Rattle.block.specs.Rows.{row}
 use Rattle.bits.proofs.Tests.{eight}
-use Rattle.quick_encoding.specs.declared.Known.{Known}
 use Rattle.block.specs.Coded.{coded_of}
 use Rattle.fields.specs.Parts.{spread, field_in, place_of_field, first_by}
-use Rattle.quick_encoding.specs.Quick.{QuicklyCoded}
 use Rattle.fields.proofs.Told.{NoneOf, otherwise}
 use Rattle.fields.proofs.Fields.{sent_code_lem}
 use Rattle.quick_encoding.proofs.Plain.{data_coded, idle_coded_lem}
@@ -123,18 +122,17 @@ module _ (ed : Edition) where
         → payload ≡ (row r).type + 2 ^ place_of_field r 0 * q0 + 2 ^ place_of_field r 1 * q1 + 2 ^ place_of_field r 2 * q2 + 2 ^ place_of_field r 3 * q3 + 2 ^ place_of_field r 4 * q4 + 2 ^ place_of_field r 5 * q5 + 2 ^ place_of_field r 6 * q6 + 2 ^ place_of_field r 7 * q7
         → record { kind = k; header = 1; payload = payload } ≡ coded_of (carrier ed (spread c0 c1 lanes))
     by_row k payload q0 q1 q2 q3 q4 q5 q6 q7 ek k0 k1 k2 k3 k4 k5 k6 k7 e =
-        tried ed (spread c0 c1 lanes) r k (record { fits = true; payload = payload }) hr w some ek
-        (ap (λ (n : ℕ). record { fits = true; payload = n }) e
+        tried ed (spread c0 c1 lanes) r k payload hr w some ek
+        (ap Some e
         ∙ all_filled ed r (spread c0 c1 lanes) hr 8 _ (omega arith)
-        (one 7 _ q7 (lit< tt) k7 (one 6 _ q6 (lit< tt) k6 (one 5 _ q5 (lit< tt) k5 (one 4 _ q4 (lit< tt) k4 (one 3 _ q3 (lit< tt) k3 (one 2 _ q2 (lit< tt) k2 (one 1 _ q1 (lit< tt) k1 (one 0 _ q0 (lit< tt) k0 (filled_none ed r (spread c0 c1 lanes) (row r).type refl)))))))))) refl
+        (one 7 _ q7 (lit< tt) k7 (one 6 _ q6 (lit< tt) k6 (one 5 _ q5 (lit< tt) k5 (one 4 _ q4 (lit< tt) k4 (one 3 _ q3 (lit< tt) k3 (one 2 _ q2 (lit< tt) k2 (one 1 _ q1 (lit< tt) k1 (one 0 _ q0 (lit< tt) k0 (filled_none ed r (spread c0 c1 lanes) (row r).type refl))))))))))
 
   -- a field that does not take its octet: the row is passed
   passed : (r i c0 c1 lanes : ℕ) → r < 16 → i < 8 → Trying ed (spread c0 c1 lanes) r → 256 ≤ code_of ed (field_in r i).slot (octet lanes (field_in r i).char)
       → carries ed (spread c0 c1 lanes) (row r).fields ≡ false
   passed r i c0 c1 lanes hr hi w h =
       let e = sent_code_lem r i hr hi ed c0 c1 lanes (w.flags hr) in
-      not_tried ed (spread c0 c1 lanes) r (record { fits = false; payload = 0 })
-      (not_filled ed r (spread c0 c1 lanes) hr i hi (subst (λ (n : ℕ). 256 ≤ n) (sym e) h)) refl
+      not_tried ed (spread c0 c1 lanes) r (not_filled ed r (spread c0 c1 lanes) hr i hi (subst (λ (n : ℕ). 256 ≤ n) (sym e) h))
 
   -- ---- Terminate after k octets, and idles
 
@@ -418,20 +416,9 @@ end_le =
 
 -- ---- what the functions answer
 
-pub never : true ≡ false → ⊥
-never n = let x : ◌≡◌ {A = ℕ} 0 1 = cc in omega arith
-
 pub positive : (m : ℕ) → (m ≡ 0 → ⊥) → 0 < m
 positive zero n = absurd (n refl)
 positive (suc m) n = omega arith
-
-module _ (c0 c1 lanes : ℕ) (z : Known) where
-  pub not_known : z.there ≡ false → QuicklyCoded c0 c1 lanes z
-  not_known e t = absurd (never (sym t ∙ e))
-
-  pub known : (k : Kind) (payload : ℕ) → z ≡ record { there = true; kind = k; header = 1; payload = payload }
-      → ((ed : Edition) → Coded-as ed k payload c0 c1 lanes) → QuicklyCoded c0 c1 lanes z
-  known k payload e f t ed = ap (λ (y : Known). record { kind = y.kind; header = y.header; payload = y.payload }) e ∙ f ed
 
 module _ (ed : Edition) (c0 c1 lanes : ℕ) (l : lanes < 2 ^ 64) where
   pub data_known : c0 + 16 * c1 ≡ 0 → record { kind = D; header = 2; payload = lanes } ≡ coded_of (carrier ed (spread c0 c1 lanes))

@@ -96,12 +96,6 @@ module _ (c : Counts) where
   pub one_type : record { tested = c.tested; slips = c.slips; headers = c.headers; types = c.types + 1; codes = c.codes; sets = c.sets } ≡ reasoned c (Class.Bad BlockType)
   one_type = summed (Class.Bad BlockType) _ _ _ _ (nought c.headers) refl (nought c.codes) (nought c.sets)
 
-  pub one_code : record { tested = c.tested; slips = c.slips; headers = c.headers; types = c.types; codes = c.codes + 1; sets = c.sets } ≡ reasoned c (Class.Bad ControlCode)
-  one_code = summed (Class.Bad ControlCode) _ _ _ _ (nought c.headers) (nought c.types) refl (nought c.sets)
-
-  pub one_set : record { tested = c.tested; slips = c.slips; headers = c.headers; types = c.types; codes = c.codes; sets = c.sets + 1 } ≡ reasoned c (Class.Bad SetCode)
-  one_set = summed (Class.Bad SetCode) _ _ _ _ (nought c.headers) (nought c.types) (nought c.codes) refl
-
   -- one more block, with n slips
   abbrev pub one_more : ℕ → Counts
   one_more n = record { tested = c.tested + 1; slips = c.slips + n; headers = c.headers; types = c.types; codes = c.codes; sets = c.sets }
@@ -179,10 +173,6 @@ module _ (h : Handed) where
   pub out_init : (t : Tested) → h ≡ hand_out h (record { state = Init; block = t })
   unfolding hand_out
   out_init t = λ i. record { begun = none_begun t i; replaced = sym (add-zero h.replaced) i }
-
-  pub out_error : (t : Tested) → replaced_out h ≡ hand_out h (record { state = Error; block = t })
-  unfolding hand_out
-  out_error t = λ i. record { begun = none_begun t i; replaced = h.replaced + 1 }
 
 -- no vector adds nothing
 pub hand_end : (h : Handed) → plus_handed h (handed_of []) ≡ h

@@ -8,6 +8,8 @@ use lib.ListN.{length, drop}
 use lib.Seq.{drop-drop}
 use Rattle.bits.specs.Bits.{line_bits}
 use Rattle.blocks.specs.Blocks.{header_at, payload_at}
+use Rattle.std.specs.Prelude.{Some}
+use Rattle.line.specs.declared.Block.{Block}
 use Rattle.carrying.specs.Carrying.{Sound, Takes}
 use Rattle.carrying.specs.declared.Carried.{Carried}
 use Rattle.carrying.specs.declared.Taken.{Taken}
@@ -21,9 +23,13 @@ never e = absurd (false≢true e)
 
 -- ---- a whole block, where nothing is carried
 
+-- the block
+abbrev pub block_with : (header payload : ℕ) → Block
+block_with header payload = record { header = header; payload = payload }
+
 -- what is taken from the line
 abbrev pub whole_block : Progress → (header payload : ℕ) → Taken
-whole_block p header payload = record { full = true; header = header; payload = payload; carried = p.receiver.carried; next = p.pos + 66 }
+whole_block p header payload = record { block = Some (block_with header payload); carried = p.receiver.carried; next = p.pos + 66 }
 
 -- nothing is carried: no bit is set
 pub carried_none : (c : Carried) → Sound c → c.count ≡ 0 → (c.count ≡ 0) × (c.header ≡ 0) × (c.payload ≡ 0)
@@ -37,7 +43,7 @@ pub whole_taken : (line : List ℕ) (p : Progress) (header payload : ℕ) → So
 whole_taken line p header payload s skip none here eh ep =
     let c = p.receiver.carried in
     subst (λ (b : Bool). Takes (line_bits line) p.pos b c (whole_block p header payload)) (sym skip)
-    (takes_whole line p.pos c (omega (arith, here)) (whole_block p header payload) none here refl (carried_none c s none) refl eh ep)
+    (takes_whole line p.pos c (omega (arith, here)) (whole_block p header payload) none here (block_with header payload) refl (carried_none c s none) refl eh ep)
 
 -- ---- stretches
 

@@ -10,6 +10,8 @@ use lib.ListN.{length, get_or, take, drop, length-append, take-append-drop}
 use lib.Seq.{drop-drop, drop-cons, length-take-le}
 use Rattle.bits.specs.Bits.{line_bits}
 use Rattle.bits.proofs.Lists.{length_line_bits}
+use Rattle.std.specs.Prelude.{Some, None}
+use Rattle.line.specs.declared.Block.{Block}
 use Rattle.carrying.specs.Carrying.{carried_bits, Takes}
 use Rattle.carrying.specs.declared.Taken.{Taken}
 use Rattle.carrying.proofs.Laws.{length_carried}
@@ -99,7 +101,7 @@ waited p t =
 module _ (line room : List ℕ) (p : Progress) (u : Under line room p) (here : p.pos < 8 * length line) (t : Taken)
     (k : Takes (line_bits line) p.pos p.receiver.skip p.receiver.carried t) where
   -- nothing changes in what comes of it
-  waited_same : t.full ≡ false → upshot line room (waited p t) ≡ upshot line room p
+  waited_same : t.block ≡ None → upshot line room (waited p t) ≡ upshot line room p
   unfolding upshot held_in feed_in feed_of
   waited_same idle =
       let w = k.waits idle in
@@ -111,7 +113,7 @@ module _ (line room : List ℕ) (p : Progress) (u : Under line room p) (here : p
       k.past w.one w.carried few))
 
   -- so that is a turn
-  pub turn_wait : t.full ≡ false → Turns line room room p (waited p t)
+  pub turn_wait : t.block ≡ None → Turns line room room p (waited p t)
   turn_wait idle =
       record {
         under =
@@ -151,15 +153,15 @@ pub upshot_same : (b b' : List ℕ) (s s' : State) (h h' : List Tested) (c c' : 
 upshot_same b b' s s' h h' c c' n n' e p q r u v = rw (p, q, r, u, v)
 
 module _ (line room : List ℕ) (p : Progress) (u : Under line room p) (t : Taken)
-    (k : Takes (line_bits line) p.pos p.receiver.skip p.receiver.carried t) (full : t.full ≡ true) (link : Link) (h : Held)
-    (el : link ≡ link_of p.receiver.link t.header t.payload) (eh : tested_in h ≡ tested_of p.receiver.link t.header t.payload) where
+    (k : Takes (line_bits line) p.pos p.receiver.skip p.receiver.carried t) (b : Block) (full : t.block ≡ Some b) (link : Link) (h : Held)
+    (el : link ≡ link_of p.receiver.link b.header b.payload) (eh : tested_in h ≡ tested_of p.receiver.link b.header b.payload) where
   -- what is still to be run over after this block
   left : Run
   unfolding feed_of
   left = run (feed_of (carried_bits t.carried) h.slipped link) (drop t.next (line_bits line))
 
   -- whether it slips is the lock's to say
-  slipped_is : h.slipped ≡ slips_of p.receiver.link.lock (valid_of t.header)
+  slipped_is : h.slipped ≡ slips_of p.receiver.link.lock (valid_of b.header)
   unfolding tested_in tested_of
   slipped_is = ap (λ (x : Tested). x.slipped) eh
 
@@ -167,11 +169,11 @@ module _ (line room : List ℕ) (p : Progress) (u : Under line room p) (t : Take
   block_run : run (feed_in p.receiver) (drop p.pos (line_bits line)) ≡ run_behind (tested_in h ∷ []) left
   unfolding feed_in feed_of left
   block_run =
-      let f = k.fills full in
+      let f = k.fills b full in
       let r = p.receiver in
       let few : length (carried_bits r.carried) < 66 = rw length_carried u.sound.few in
       ap (λ (b : Bool). run (feed_of (carried_bits r.carried) b r.link) (drop p.pos (line_bits line))) f.kept
-      ∙ fill_run (line_bits line) p.pos t.next (carried_bits r.carried) r.link t.header t.payload k.past few f.whole f.header f.payload
+      ∙ fill_run (line_bits line) p.pos t.next (carried_bits r.carried) r.link b.header b.payload k.past few f.whole f.header f.payload
       ∙ rw (← eh, f.none, slipped_is, el)
 
   -- the bytes of the block held
@@ -231,7 +233,7 @@ module _ (line room : List ℕ) (p : Progress) (u : Under line room p) (t : Take
         record {
           under =
               record {
-                range = subst InRange (sym el) (range_next p.receiver.link t.header t.payload u.range);
+                range = subst InRange (sym el) (range_next p.receiver.link b.header b.payload u.range);
                 sound = k.sound;
                 pos = omega (arith, k.within, length_line_bits line);
                 at = omega (arith, ea, held_fits, len_is);

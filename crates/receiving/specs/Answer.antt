@@ -1,13 +1,12 @@
 -- What receiving answers, and what it leaves in the lent room: document 01, 'Refusal numbers' and the last lines of 'Diagrams'.
-use Rattle.std.specs.Prelude.{ℕ, ◌*◌, ◌/◌, ◌≡◌, List, [], ◌∷◌, ◌++◌, length, drop, ltb}
-use Rattle.refusals.specs.Number.{number_of}
+use Rattle.std.specs.Prelude.{ℕ, ◌*◌, ◌/◌, ◌≡◌, List, [], ◌∷◌, ◌++◌, length, drop, ltb, Result}
 use Rattle.refusals.specs.First.{Check, check, first, by_verdict}
+use Rattle.refusals.specs.Refused.{by_result}
+use Rattle.refusals.specs.declared.Refused.{Refused}
 use Rattle.block.specs.declared.Edition.{Edition}
 use Rattle.block.specs.Block.{edition_of, edition_check}
 use Rattle.receiving.specs.Receive.{judged_alone, run_of, judged_of, counts_of, handed_of, vectors_of, received_vectors}
 use Rattle.receiving.specs.declared.Summary.{Summary}
-use Rattle.receiving.specs.declared.Received.{Received}
-use Rattle.receiving.specs.declared.Received.TheVariants.{Done, Refused}
 
 -- "receiving 1, 4"; 9/13: "13, edition unknown, checked before all others"
 unfoldable pub receive_checks : (edition line room : ℕ) → List Check
@@ -42,10 +41,9 @@ receive_room edition line room =
     (λ number place. room)
 
 -- the document's number and values for each case of the answer
-abbrev pub answer_of : Received → ReceiveAnswer
-answer_of (Done summary) = received summary
-answer_of (Refused why place) = refused (number_of why) place
+abbrev pub answer_of : Result Summary Refused → ReceiveAnswer
+answer_of = by_result received refused
 
 -- the promise: `receive` was lent `room` for the vectors, answered `r` and left `room'`
-abbrev pub Receives : (edition : ℕ) (line room : List ℕ) (r : Received) (room' : List ℕ) → Type 0
+abbrev pub Receives : (edition : ℕ) (line room : List ℕ) (r : Result Summary Refused) (room' : List ℕ) → Type 0
 Receives edition line room r room' = (answer_of r ≡ receive_answer edition line (length room)) × (room' ≡ receive_room edition line room)

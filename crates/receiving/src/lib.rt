@@ -6,11 +6,10 @@ use block::{Class, Edition};
 use carrying::Carried;
 use diagrams::State;
 use lock::{Lock, Rate};
-use refusals::Refusal;
 use vectors::Vector;
 
 // The edition in use, and what each tested block updates: lock, error rate, and the last 58 payload bits of the line, the oldest at bit 0.
-#[derive(Clone, Copy)]
+#[derive(Clone, Copy, Debug, PartialEq, Eq)]
 pub struct Link {
     pub edition: Edition,
     pub lock: Lock,
@@ -20,7 +19,7 @@ pub struct Link {
 
 // What tested blocks are counted for: how many there are, how many of them slipped, and how many are bad by their header, type,
 // control codes or ordered set codes.
-#[derive(Clone, Copy)]
+#[derive(Clone, Copy, Debug, Default, PartialEq, Eq)]
 pub struct Counts {
     pub tested: u64,
     pub slips: u64,
@@ -32,7 +31,7 @@ pub struct Counts {
 
 // What vectors handed out are counted for: those of kind S that were answered as decoded, which begin frames, and those answered as the
 // error vector.
-#[derive(Clone, Copy)]
+#[derive(Clone, Copy, Debug, Default, PartialEq, Eq)]
 pub struct Handed {
     pub begun: u64,
     pub replaced: u64,
@@ -40,7 +39,7 @@ pub struct Handed {
 
 // What receiving returns: the counts of blocks, lock and error rate at the end, the number of vectors, whether the last of them was judged
 // without its successor, and the counts of vectors.
-#[derive(Clone, Copy)]
+#[derive(Clone, Copy, Debug, PartialEq, Eq)]
 pub struct Summary {
     pub counts: Counts,
     pub locked: bool,
@@ -50,14 +49,16 @@ pub struct Summary {
     pub handed: Handed,
 }
 
-#[derive(Clone, Copy)]
-pub enum Received {
-    Done(Summary),
-    Refused(Refusal, usize),
-}
+// The Local Fault vector.
+pub const LOCAL_FAULT: Vector = Vector {
+    c0: 0x01,
+    d0: 0x0100_009c,
+    c1: 0x01,
+    d1: 0x0100_009c,
+};
 
 // A tested block: whether the receiver was then locked and not high, whether it slipped, its class and its decoded vector.
-#[derive(Clone, Copy)]
+#[derive(Clone, Copy, Debug, PartialEq, Eq)]
 pub struct Held {
     pub on: bool,
     pub slipped: bool,
@@ -67,7 +68,7 @@ pub struct Held {
 
 // A receiver between two line bits: whether the next bit is to be skipped, the bits since the last tested block, the link, the
 // state of the receive diagram, and the block tested last, if there is one: its vector waits for a look at the next block.
-#[derive(Clone, Copy)]
+#[derive(Clone, Copy, Debug, PartialEq, Eq)]
 pub struct Receiver {
     pub carried: Carried,
     pub link: Link,
@@ -78,7 +79,7 @@ pub struct Receiver {
 }
 
 // How far a receiver has come: the next line bit, the next byte of the room, and what it has counted.
-#[derive(Clone, Copy)]
+#[derive(Clone, Copy, Debug, PartialEq, Eq)]
 pub struct Progress {
     pub receiver: Receiver,
     pub pos: usize,
@@ -88,7 +89,7 @@ pub struct Progress {
 }
 
 // What the vector of the last block adds: the counts of vectors with it, and whether it was judged without its successor.
-#[derive(Clone, Copy)]
+#[derive(Clone, Copy, Debug, PartialEq, Eq)]
 pub struct LastVector {
     pub handed: Handed,
     pub alone: bool,

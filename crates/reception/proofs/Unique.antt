@@ -3,19 +3,17 @@ use Prim.Native.Nat.{ℕ, ◌+◌}
 use mathlib.Core.Path.{◌≡◌, sym, ap, ap₂, ◌∙◌}
 use mathlib.Core.Bool.{Bool, true}
 use mathlib.Core.List.{List, ◌++◌}
-use native.Mathlib.Omega.{arith}
 use lib.ListN.{length, take, drop}
-use Rattle.refusals.proofs.Laws.{number_injective}
+use Rattle.std.specs.Prelude.{Result, Ok, Err}
+use Rattle.refusals.proofs.Unique.{refused_injective}
 use Rattle.refusals.specs.Number.{number_of}
-use Rattle.refusals.specs.declared.Refusal.{Refusal}
+use Rattle.refusals.specs.declared.Refused.{Refused}
 use Rattle.receiving.specs.Answer.{received, refused, answer_of, Receives}
 use Rattle.receiving.specs.Loop.{held_bytes, held_handed, held_alone}
 use Rattle.receiving.specs.declared.Summary.{Summary}
 use Rattle.receiving.specs.declared.Handed.{Handed}
 use Rattle.receiving.specs.declared.Receiver.{Receiver}
 use Rattle.receiving.specs.declared.LastVector.{LastVector}
-use Rattle.receiving.specs.declared.Received.{Received}
-use Rattle.receiving.specs.declared.Received.TheVariants.{Done, Refused}
 
 -- equal refusals have equal numbers
 same_number : (a b p q : ℕ) → refused a p ≡ refused b q → a ≡ b
@@ -30,15 +28,15 @@ same_summary : (a b : Summary) → received a ≡ received b → a ≡ b
 same_summary a b e = cc
 
 -- the document's numbers and values tell the answer
-pub answer_injective : (a b : Received) → answer_of a ≡ answer_of b → a ≡ b
-answer_injective (Done r) (Done s) e = ap Done (same_summary r s e)
-answer_injective (Done r) (Refused n p) e = absurd (let z : ◌≡◌ {A = ℕ} 0 1 = cc in omega arith)
-answer_injective (Refused n p) (Done r) e = absurd (let z : ◌≡◌ {A = ℕ} 0 1 = cc in omega arith)
-answer_injective (Refused n p) (Refused m q) e =
-    ap (λ (x : Refusal). Refused x p) (number_injective n m (same_number (number_of n) (number_of m) p q e)) ∙ ap (Refused m) (same_place (number_of n) (number_of m) p q e)
+pub answer_injective : (a b : Result Summary Refused) → answer_of a ≡ answer_of b → a ≡ b
+answer_injective (Ok r) (Ok s) e = ap Ok (same_summary r s e)
+answer_injective (Ok r) (Err w) e = cc
+answer_injective (Err v) (Ok r) e = cc
+answer_injective (Err v) (Err w) e =
+    ap Err (refused_injective v w (same_number (number_of v.0) (number_of w.0) v.1 w.1 e) (same_place (number_of v.0) (number_of w.0) v.1 w.1 e))
 
 -- `receive`
-pub receive_unique : (edition : ℕ) (line room room₁ room₂ : List ℕ) (a b : Received) → Receives edition line room a room₁ → Receives edition line room b room₂ → (a ≡ b) × (room₁ ≡ room₂)
+pub receive_unique : (edition : ℕ) (line room room₁ room₂ : List ℕ) (a b : Result Summary Refused) → Receives edition line room a room₁ → Receives edition line room b room₂ → (a ≡ b) × (room₁ ≡ room₂)
 receive_unique edition line room room₁ room₂ a b (p, q) (r, s) = (answer_injective a b (p ∙ sym r), q ∙ sym s)
 
 -- what `receive_last` leaves of a room, with a held block's bytes from `at` on

@@ -11,13 +11,13 @@ ghost use Rattle.receiving.specs.Loop.{Ends, Fresh, written_by, held_bytes, held
 
 use answering::{judged_alone, settle_held};
 use block::{Class, Edition, Reason};
-use carrying::nothing;
+use carrying::Carried;
 use diagrams::State;
 use hunting::hunt;
 use lock::{Lock, Rate};
 use locked::stretch;
-use receiving::{Counts, Handed, Held, LastVector, Link, Progress, Received, Receiver, Summary};
-use refusals::Refusal;
+use receiving::{Counts, Handed, Held, LastVector, Link, Progress, Receiver, Summary};
+use refusals::{Refusal, Refused};
 use turning::turn;
 use vectors::Vector;
 
@@ -32,18 +32,8 @@ pub fn receive_more(line: &[u8], room: &mut [u8], start: Receiver) -> Progress
         receiver: start,
         pos: 0,
         at: 0,
-        counts: Counts {
-            tested: 0,
-            slips: 0,
-            headers: 0,
-            types: 0,
-            codes: 0,
-            sets: 0,
-        },
-        handed: Handed {
-            begun: 0,
-            replaced: 0,
-        },
+        counts: Counts::default(),
+        handed: Handed::default(),
     };
     while p.pos < bits {
         p = stretch(line, room, p);
@@ -58,15 +48,10 @@ pub fn receive_last(room: &mut [u8], at: usize, r: Receiver, handed: Handed) -> 
     requires { (at + length (held_bytes r.have r.state r.held true) ≤ length room.old) × HandedWithin 6600000 handed }
     ensures { (room.new ≡ take at room.old ++ (held_bytes r.have r.state r.held true ++ drop (at + length (held_bytes r.have r.state r.held true)) room.old)) × (result.handed ≡ held_handed r.have handed r.state r.held true) × (result.alone ≡ held_alone r.have r.state r.held) }
 {
-    let state = r.state;
-    let held = r.held;
-    let have = r.have;
-    let last = settle_held(room, at, handed, have, state, held, true);
-    let state = last.state;
-    let handed = last.handed;
+    let last = settle_held(room, at, handed, r.have, r.state, r.held, true);
     LastVector {
-        handed: handed,
-        alone: judged_alone(have, state),
+        handed: last.handed,
+        alone: judged_alone(r.have, last.state),
     }
 }
 
@@ -76,19 +61,11 @@ fn fresh(edition: Edition) -> Receiver
 {
     Receiver {
         skip: false,
-        carried: nothing(),
+        carried: Carried::default(),
         link: Link {
-            edition: edition,
-            lock: Lock {
-                tested: 0,
-                invalid: 0,
-                locked: false,
-            },
-            rate: Rate {
-                blocks: 0,
-                invalid: 0,
-                high: false,
-            },
+            edition,
+            lock: Lock::default(),
+            rate: Rate::default(),
             history: 0,
         },
         state: State::Init,
@@ -97,12 +74,7 @@ fn fresh(edition: Edition) -> Receiver
             on: false,
             slipped: false,
             class: Class::Bad(Reason::Header),
-            vector: Vector {
-                c0: 0,
-                d0: 0,
-                c1: 0,
-                d1: 0,
-            },
+            vector: Vector::default(),
         },
     }
 }
@@ -113,35 +85,31 @@ fn receive_all(edition: Edition, line: &[u8], room: &mut [u8]) -> Summary
     ensures { (result ≡ summary_of edition line.now) × (room.new ≡ received_vectors edition line.now ++ drop (length (received_vectors edition line.now)) room.old) }
 {
     let p = receive_more(line, room, fresh(edition));
-    let r = p.receiver;
-    let link = r.link;
-    let lock = link.lock;
-    let rate = link.rate;
-    let last = receive_last(room, p.at, r, p.handed);
-    let counts = p.counts;
-    let handed = last.handed;
+    let last = receive_last(room, p.at, p.receiver, p.handed);
     Summary {
-        counts: counts,
-        locked: lock.locked,
-        high: rate.high,
-        vectors: counts.tested,
+        counts: p.counts,
+        locked: p.receiver.link.lock.locked,
+        high: p.receiver.link.rate.high,
+        vectors: p.counts.tested,
         alone: last.alone,
-        handed: handed,
+        handed: last.handed,
     }
 }
 
-// Receiving a line in an edition (0 old, 1 new): its vectors go to the room, from its start.
-pub fn receive(edition: u64, line: &[u8], room: &mut [u8]) -> Received
+// Receiving a line in an edition (0 old, 1 new): its vectors go to the room, from its start. The edition is a number, as C hands it over
+// (`holzmotte_receive`).
+#[tactic(auto, unfolding(receiving::specs::Answer::receive_checks, receiving::specs::Answer::receive_answer, receiving::specs::Answer::receive_room, refusals::specs::First::first))]
+pub fn receive(edition: u64, line: &[u8], room: &mut [u8]) -> Result<Summary, Refused>
     ensures { Receives edition line.now room.old result room.new }
 {
     if 1 < edition {
-        return Received::Refused(Refusal::UnknownEdition, 0);
+        return Err(Refused(Refusal::UnknownEdition, 0));
     }
     if 825000 < line.len() {
-        return Received::Refused(Refusal::TooMuch, 0);
+        return Err(Refused(Refusal::TooMuch, 0));
     }
     if room.len() < 10 * (8 * line.len() / 66) {
-        return Received::Refused(Refusal::Room, 0);
+        return Err(Refused(Refusal::Room, 0));
     }
-    Received::Done(receive_all(tables::edition_of(edition), line, room))
+    Ok(receive_all(tables::edition_of(edition), line, room))
 }

@@ -1,4 +1,3 @@
-pub mod Laws
 pub mod Readable
 pub mod Demand1
 pub mod Unique

@@ -1,10 +1,9 @@
 -- Document 01, 'Capture records' and the row of 'Refusal numbers' on writing a record; document 02, 7/13.
-use Rattle.std.specs.Prelude.{ℕ, ◌+◌, ◌/◌, ◌%◌, ◌≡◌, List, [], ◌∷◌, ◌++◌, Bool, cond, length, drop, ltb}
+use Rattle.std.specs.Prelude.{ℕ, ◌+◌, ◌/◌, ◌%◌, ◌≡◌, List, [], ◌∷◌, ◌++◌, Bool, cond, length, drop, ltb, Result, Ok, Err}
 use Rattle.refusals.specs.Number.{number_of}
 use Rattle.refusals.specs.First.{Check, check, first, by_verdict}
 use Rattle.records.specs.Record.{body_limit, old_body_limit, unknown_kind, not_groups}
-use Rattle.record_writing.specs.declared.Written.{Written}
-use Rattle.record_writing.specs.declared.Written.TheVariants.{Done, Refused}
+use Rattle.refusals.specs.declared.Refusal.{Refusal}
 
 -- 7/13: "A writer is told, by a yes or no, which limit to keep"; yes is the new one
 abbrev pub limit_kept : (wide : Bool) → ℕ
@@ -39,11 +38,11 @@ written_room limit kind body room =
     (λ number place. room)
 
 -- the document's number and values for each case of the writer's answer
-abbrev pub write_answer_of : Written → WriteAnswer
-write_answer_of (Done n) = wrote n
-write_answer_of (Refused why) = unwritten (number_of why) 0
+abbrev pub write_answer_of : Result ℕ Refusal → WriteAnswer
+write_answer_of (Ok n) = wrote n
+write_answer_of (Err why) = unwritten (number_of why) 0
 
 -- the promise: `write` was told which limit to keep and was lent `room` for the record, answered `r` and left `room'`
-abbrev pub Writes : (kind : ℕ) (body : List ℕ) (wide : Bool) (room : List ℕ) (r : Written) (room' : List ℕ) → Type 0
+abbrev pub Writes : (kind : ℕ) (body : List ℕ) (wide : Bool) (room : List ℕ) (r : Result ℕ Refusal) (room' : List ℕ) → Type 0
 Writes kind body wide room r room' =
     (write_answer_of r ≡ write_answer (limit_kept wide) kind body room) × (room' ≡ written_room (limit_kept wide) kind body room)

@@ -1,10 +1,14 @@
 -- Document 01, 'Capture records' and the row of 'Refusal numbers' on reading a record; document 02, 7/13. The body limit is an argument of
 -- what is read and written: `body_limit` is the one in force, and an old reader is one with the other.
-use Rattle.std.specs.Prelude.{ℕ, ◌+◌, ◌*◌, ◌-◌, ◌%◌, ◌≡◌, List, [], ◌∷◌, Bool, cond, not, ◌&&◌, ◌||◌, length, get_or, take, drop, ltb, leb, eqb}
-use Rattle.refusals.specs.Number.{number_of}
+use Rattle.std.specs.Prelude.{ℕ, ◌+◌, ◌*◌, ◌-◌, ◌%◌, ◌≡◌, List, [], ◌∷◌, Bool, cond, not, ◌&&◌, ◌||◌, length, get_or, take, drop, ltb, leb, eqb, Option, Some, None, Result, Ok, Err}
 use Rattle.refusals.specs.First.{Check, check_at, first, by_verdict}
-use Rattle.records.specs.declared.Found.{Found}
-use Rattle.records.specs.declared.Found.TheVariants.{Whole, End, Refused}
+use Rattle.refusals.specs.Refused.{by_result}
+use Rattle.refusals.specs.declared.Refusal.{Refusal}
+use Rattle.refusals.specs.declared.Refusal.TheVariants as Why
+use Rattle.refusals.specs.declared.Refused.{Refused}
+use Rattle.records.specs.declared.RecordKind.{RecordKind}
+use Rattle.records.specs.declared.RecordKind.TheVariants.{Vectors, Line}
+use Rattle.records.specs.declared.Record.{Record}
 
 -- 7/13: "Raise the body limit to 65,472 bytes"
 abbrev pub body_limit : ℕ
@@ -21,6 +25,15 @@ two_at s i = get_or s i 0 + 256 * get_or s (i + 1) 0
 -- "record kind not 1 or 2"
 abbrev pub unknown_kind : ℕ → Bool
 unknown_kind kind = not (eqb kind 1 || eqb kind 2)
+
+-- the number of each kind
+abbrev pub kind_number : RecordKind → ℕ
+kind_number Vectors = 1
+kind_number Line = 2
+
+-- the kind that has a number, or the refusal of an unknown one
+abbrev pub kind_of : ℕ → Result RecordKind Refusal
+kind_of number = cond (eqb number 1) (Ok Vectors) (cond (eqb number 2) (Ok Line) (Err Why.RecordKind))
 
 -- "vector bytes not a multiple of 40": kind 1 only
 abbrev pub not_groups : (kind len : ℕ) → Bool
@@ -50,14 +63,17 @@ read_at limit s at =
     (whole (two_at s (at + 2)) (at + 4) (two_at s at) (at + 4 + two_at s at))
     refused)
 
+-- the document's values for a record that was read, and for none
+abbrev pub found : Option Record → Answer
+found (Some r) = whole (kind_number r.kind) r.start r.len r.next
+found None = end
+
 -- the document's number and values for each case of the reader's answer
-abbrev pub answer_of : Found → Answer
-answer_of (Whole kind start len next) = whole kind start len next
-answer_of End = end
-answer_of (Refused why place) = refused (number_of why) place
+abbrev pub answer_of : Result (Option Record) Refused → Answer
+answer_of = by_result found refused
 
 -- the promise: `read` looked at a place of a file's bytes and answered `r`
-abbrev pub Finds : (file : List ℕ) (place : ℕ) (r : Found) → Type 0
+abbrev pub Finds : (file : List ℕ) (place : ℕ) (r : Result (Option Record) Refused) → Type 0
 Finds file place r = answer_of r ≡ read_at body_limit file place
 
 -- "The body is the part of the file's bytes that starts after the head": len bytes from start; nothing where they run past the end

@@ -2,34 +2,51 @@
 #![tactic(auto)]
 
 ghost use Rattle.std.specs.Prelude.{◌≡◌, ◌+◌, ◌<◌, ◌≤◌, length};
-ghost use Rattle.records.specs.Record.{body_limit, two_at, unknown_kind, not_groups, Finds, body_of, wanted_of};
+ghost use Rattle.records.specs.Record.{body_limit, two_at, kind_number, kind_of, not_groups, Finds, body_of, wanted_of};
 
-use refusals::Refusal;
+use refusals::{Refusal, Refused};
 
 // The most bytes of a body that is read.
 pub const LIMIT: usize = 65472;
 
-// What reading at a place finds.
-#[derive(Clone, Copy)]
-pub enum Found {
-    // A whole record: its body is len bytes from start, and next is the place after it.
-    Whole {
-        kind: usize,
-        start: usize,
-        len: usize,
-        next: usize,
-    },
-    // No bytes left: a plain end of records.
-    End,
-    // The refusal and the place of the head.
-    Refused(Refusal, usize),
+// The kinds of record.
+#[derive(Clone, Copy, Debug, PartialEq, Eq)]
+pub enum RecordKind {
+    Vectors = 1,
+    Line = 2,
 }
 
-// A byte as a number.
-fn wide(x: u8) -> usize
-    ensures { (result ≡ x) × (result < 256) }
-{
-    x as usize
+impl RecordKind {
+    // The number that the document gives a kind.
+    pub fn number(self) -> usize
+        ensures { (result ≡ kind_number self) × (result < 65536) }
+    {
+        self as usize
+    }
+}
+
+// The kind that has a number.
+impl TryFrom<usize> for RecordKind {
+    type Error = Refusal;
+
+    ghost try_from_gives = { λ number r. r ≡ kind_of number };
+
+    fn try_from(number: usize) -> Result<RecordKind, Refusal> {
+        match number {
+            1 => Ok(RecordKind::Vectors),
+            2 => Ok(RecordKind::Line),
+            _ => Err(Refusal::RecordKind),
+        }
+    }
+}
+
+// A whole record: its body is len bytes from start, and next is the place after it.
+#[derive(Clone, Copy, Debug, PartialEq, Eq)]
+pub struct Record {
+    pub kind: RecordKind,
+    pub start: usize,
+    pub len: usize,
+    pub next: usize,
 }
 
 // The two-byte number at a place, lowest byte first.
@@ -38,64 +55,50 @@ fn two(s: &[u8], i: usize) -> usize
     ensures value { result ≡ two_at s.now i }
     ensures upper_bound { result < 65536 }
 {
-    wide(s[i]) + 256 * wide(s[i + 1])
+    usize::from(u16::from_le_bytes([s[i], s[i + 1]]))
 }
 
-// Whether no record has this kind.
-pub fn unknown_kind(kind: usize) -> bool
-    ensures { result ≡ unknown_kind kind }
-{
-    if kind == 1 {
-        return false;
-    }
-    if kind == 2 {
-        return false;
-    }
-    true
-}
-
-// Whether a vector record's body is not whole groups of four vectors.
+// Whether a vector record's body is not whole groups of four vectors. It takes any number for a kind, as it did since docs/landings/07.md.
 pub fn not_groups(kind: usize, len: usize) -> bool
     ensures { result ≡ not_groups kind len }
 {
     kind == 1 && len % 40 != 0
 }
 
-// The record whose head is at a place of s.
-pub fn read(s: &[u8], at: usize) -> Found
+// The record whose head is at a place of s, or none where no bytes are left: a plain end of records. A refusal has the place of the head.
+#[tactic(auto, using(std::proofs::lemmas::Bool::Decides::nat_tests), unfolding(crate::specs::Record::read_at, crate::specs::Record::read_checks, refusals::specs::First::first))]
+pub fn read(s: &[u8], at: usize) -> Result<Option<Record>, Refused>
     ensures { Finds s.now at result }
 {
     if s.len() <= at {
-        return Found::End;
+        return Ok(None);
     }
     let left = s.len() - at;
     if left < 4 {
-        return Found::Refused(Refusal::Cut, at);
+        return Err(Refused(Refusal::Cut, at));
     }
     let len = two(s, at);
     if LIMIT < len {
-        return Found::Refused(Refusal::LongBody, at);
+        return Err(Refused(Refusal::LongBody, at));
     }
-    let kind = two(s, at + 2);
-    if unknown_kind(kind) {
-        return Found::Refused(Refusal::RecordKind, at);
+    let kind = RecordKind::try_from(two(s, at + 2)).map_err(|why| Refused(why, at))?;
+    if left < len + 4 {
+        return Err(Refused(Refusal::Cut, at));
+    }
+    if not_groups(kind.number(), len) {
+        return Err(Refused(Refusal::NotGroups, at));
     }
     let start = at + 4;
-    if left < len + 4 {
-        return Found::Refused(Refusal::Cut, at);
-    }
-    if not_groups(kind, len) {
-        return Found::Refused(Refusal::NotGroups, at);
-    }
-    Found::Whole {
+    Ok(Some(Record {
         kind,
         start,
         len,
         next: start + len,
-    }
+    }))
 }
 
 // How many bytes to read after these head bytes before the record can be judged.
+#[tactic(auto, using(std::proofs::lemmas::Bool::Decides::nat_tests), unfolding(crate::specs::Record::wanted_of))]
 pub fn wanted(head: &[u8]) -> usize
     ensures { (result ≡ wanted_of body_limit head.now) × (result ≤ body_limit) }
 {
@@ -103,23 +106,15 @@ pub fn wanted(head: &[u8]) -> usize
         return 0;
     }
     let n = two(head, 0);
-    if LIMIT < n {
-        return 0;
-    }
-    n
+    if LIMIT < n { 0 } else { n }
 }
 
 // A body, as the part of s that it is: no copy.
+#[tactic(auto, using(std::proofs::lemmas::Bool::Decides::nat_tests), unfolding(crate::specs::Record::body_of))]
 pub fn body(s: &[u8], start: usize, len: usize) -> &[u8]
     ensures { result.now ≡ body_of s.now start len }
 {
-    if start <= s.len() {
-        if len <= s.len() - start {
-            &s[start..start + len]
-        } else {
-            &s[..0]
-        }
-    } else {
-        &s[..0]
-    }
+    s.get(start..)
+        .and_then(|rest| rest.get(..len))
+        .unwrap_or(&[])
 }

@@ -1,3 +1,4 @@
 pub mod Number
 pub mod First
 pub mod Outcome
+pub mod Refused

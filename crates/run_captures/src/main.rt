@@ -1,10 +1,10 @@
 // Document 01, 'Capture records', run: the body of a record handed on to receiving or to sending.
 #![tactic(auto)]
 
-use captures::{RecordReceived, RecordSent, receive_record, send_record};
-use receiving::Received;
-use refusals::{Refusal, number};
-use sending::Sent;
+use captures::{receive_record, send_record};
+use receiving::Summary;
+use refusals::Refused;
+use sending::Sending;
 use std::io;
 
 // Two digits a byte, on a line.
@@ -15,42 +15,32 @@ fn print_bytes(rt: &impl Print, bytes: &[u8]) -> io::Result<()> {
     println!(rt; "")
 }
 
-fn print_refused(rt: &impl Print, why: Refusal, place: usize) -> io::Result<()> {
-    let refusal = number(why);
+fn print_refused(rt: &impl Print, refused: Refused) -> io::Result<()> {
+    let Refused(why, place) = refused;
+    let refusal = why.number();
     println!(rt; "refused {refusal} at {place}")
 }
 
-fn print_sent(rt: &impl Print, answer: Sent) -> io::Result<()> {
-    match answer {
-        Sent::Done(s) => {
-            println!(rt;
-                "end state {:015x}, diagram {}, replaced {}",
-                s.state, s.diagram, s.replaced
-            )
-        }
-        Sent::Refused(why, place) => print_refused(rt, why, place),
-    }
+fn print_sent(rt: &impl Print, s: Sending) -> io::Result<()> {
+    println!(rt;
+        "end state {:015x}, diagram {}, replaced {}",
+        s.state, s.diagram, s.replaced
+    )
 }
 
-fn print_received(rt: &impl Print, answer: Received) -> io::Result<()> {
-    match answer {
-        Received::Done(s) => {
-            let c = s.counts;
-            println!(rt;
-                "tested {}, slips {}, vectors {}",
-                c.tested, c.slips, s.vectors
-            )
-        }
-        Received::Refused(why, place) => print_refused(rt, why, place),
-    }
+fn print_received(rt: &impl Print, s: Summary) -> io::Result<()> {
+    println!(rt;
+        "tested {}, slips {}, vectors {}",
+        s.counts.tested, s.counts.slips, s.vectors
+    )
 }
 
 fn receive_at(rt: &impl Print, file: &[u8], at: usize) -> io::Result<()> {
     let mut room = [0xaau8; 20];
     match receive_record(file, at, &mut room) {
-        RecordReceived::Received(answer) => print_received(rt, answer)?,
-        RecordReceived::End => println!(rt; "no more records")?,
-        RecordReceived::Refused(why, place) => print_refused(rt, why, place)?,
+        Ok(Some(Ok(summary))) => print_received(rt, summary)?,
+        Ok(None) => println!(rt; "no more records")?,
+        Ok(Some(Err(refused))) | Err(refused) => print_refused(rt, refused)?,
     }
     print_bytes(rt, &room)
 }
@@ -58,9 +48,9 @@ fn receive_at(rt: &impl Print, file: &[u8], at: usize) -> io::Result<()> {
 fn send_at(rt: &impl Print, file: &[u8], at: usize) -> io::Result<()> {
     let mut room = [0xaau8; 40];
     match send_record(file, at, 0, &mut room) {
-        RecordSent::Sent(answer) => print_sent(rt, answer)?,
-        RecordSent::End => println!(rt; "no more records")?,
-        RecordSent::Refused(why, place) => print_refused(rt, why, place)?,
+        Ok(Some(Ok(sending))) => print_sent(rt, sending)?,
+        Ok(None) => println!(rt; "no more records")?,
+        Ok(Some(Err(refused))) | Err(refused) => print_refused(rt, refused)?,
     }
     print_bytes(rt, &room)
 }

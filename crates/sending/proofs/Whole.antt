@@ -1,9 +1,9 @@
 -- The loop over the groups. Assumes nothing.
-use Prim.Native.Nat.{ℕ, ◌+◌, ◌*◌, ◌/◌, ◌%◌, ◌^◌, ◌≤◌, ◌<◌}
+use Prim.Native.Nat.{ℕ, ◌+◌, ◌*◌, ◌/◌, ◌^◌, ◌≤◌, ◌<◌}
 use mathlib.Core.Path.{◌≡◌, refl, sym, ap, ap₂, ◌∙◌, subst}
 use mathlib.Core.List.{List, ◌++◌}
 use native.Mathlib.Omega.{arith}
-use lib.ListN.{length, take, drop, length-append, length-drop}
+use lib.ListN.{length, take, drop}
 use lib.Seq.{take_at, drop_at, drop-drop}
 use Rattle.bits.specs.Bits.{stream_bit, cut}
 use Rattle.bits.proofs.Laws.{length_cut}
@@ -16,7 +16,7 @@ use Rattle.transmit.specs.declared.Sender.{Sender}
 use Rattle.groups.specs.declared.Group.{Group}
 use Rattle.transmit.specs.Steps.{SentAs}
 use Rattle.groups.specs.Four.{group_words, SentFour}
-use Rattle.sending.specs.Whole.{words_for, SentInto}
+use Rattle.sending.specs.Whole.{words_for}
 use Rattle.transmit.proofs.Laws.{sends_none, sends_join, sends_few, sends_history, sends_length}
 
 -- the line of words in groups of four
@@ -40,11 +40,6 @@ module _ (ed : Edition) where
 
     pub small : s.history < 2 ^ 58 → next.history < 2 ^ 58
     small l = sends_history ed s next (vectors_in (4 * g) bytes) _ inv.sends l
-
-    pub same : 33 * (length bytes / 40) ≤ length before → length after ≡ length before
-    same l =
-        ap length inv.room ∙ length-append (line_of (words_for ed s (vectors_in (4 * g) bytes)) g) (drop (33 * g) before)
-        ∙ omega (arith, inv.upto, length_cut 8 (33 * g) (stream_bit 66 (words_for ed s (vectors_in (4 * g) bytes))), length-drop (33 * g) before)
 
     abbrev words : List ℕ
     words = words_for ed s (vectors_in (4 * g) bytes)
@@ -88,15 +83,3 @@ module _ (ed : Edition) where
               ∙ ap₂ (λ (x : List ℕ) (i : ℕ). x ++ drop i before) (joined four) m
               ∙ ap (λ (ws : List ℕ). line_of ws (g + 1) ++ drop (33 * (g + 1)) before) j.line;
         }
-
-  pub done : (s : Sender) (bytes before after : List ℕ) (next : Sender) (g : ℕ) → SentSofar s bytes before after next g
-      → length bytes / 40 ≤ g → length bytes % 40 ≡ 0 → SentInto ed s bytes before after next
-  done s bytes before after next g inv l z =
-      let e : g ≡ length bytes / 40 = omega arith in
-      let n : 4 * g ≡ length bytes / 10 = omega arith in
-      record {
-        sends = subst (λ (k : ℕ). SentAs ed s (vectors_in k bytes) (words_for ed s (vectors_in k bytes)) next) n inv.sends;
-        room =
-            inv.room
-            ∙ ap₂ (λ (k i : ℕ). line_of (words_for ed s (vectors_in k bytes)) i ++ drop (33 * i) before) n e;
-      }

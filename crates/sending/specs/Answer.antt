@@ -1,6 +1,7 @@
 -- What sending answers, and what it leaves in the lent room: document 01, 'Refusal numbers' and the last lines of 'Diagrams'.
-use Rattle.std.specs.Prelude.{ℕ, ◌*◌, ◌/◌, ◌%◌, ◌^◌, List, [], ◌∷◌, ◌++◌, not, ◌≡◌, length, drop, ltb, leb, eqb}
-use Rattle.refusals.specs.Number.{number_of}
+use Rattle.std.specs.Prelude.{ℕ, ◌*◌, ◌/◌, ◌%◌, ◌^◌, List, [], ◌∷◌, ◌++◌, not, ◌≡◌, Result, length, drop, ltb, leb, eqb}
+use Rattle.refusals.specs.Refused.{by_result}
+use Rattle.refusals.specs.declared.Refused.{Refused}
 use Rattle.refusals.specs.First.{Check, check, first, by_verdict}
 use Rattle.scrambler.specs.Scrambler.{mirror}
 use Rattle.block.specs.declared.Edition.{Edition}
@@ -9,8 +10,7 @@ use Rattle.control_bytes.specs.Control.{control_check}
 use Rattle.diagrams.specs.Diagram.{state_number}
 use Rattle.diagrams.specs.declared.State.TheVariants.{Init}
 use Rattle.transmit.specs.Send.{state_after, replaced, history_over, blocks_for, sent_line}
-use Rattle.sending.specs.declared.Sent.{Sent}
-use Rattle.sending.specs.declared.Sent.TheVariants.{Done, Refused}
+use Rattle.sending.specs.declared.Sending.{Sending}
 
 -- "sending 1, 2, 3, 4, 5"; 9/13: "13, edition unknown, checked before all others"
 unfoldable pub send_checks : ℕ → List ℕ → (start room : ℕ) → List Check
@@ -44,10 +44,9 @@ send_room edition bytes start room =
     (λ number place. room)
 
 -- the document's number and values for each case of the answer
-abbrev pub answer_of : Sent → SendAnswer
-answer_of (Done s) = sent s.state s.diagram s.replaced
-answer_of (Refused why place) = refused (number_of why) place
+abbrev pub answer_of : Result Sending Refused → SendAnswer
+answer_of = by_result (λ s. sent s.state s.diagram s.replaced) refused
 
 -- the promise: `send` was lent `room` for the line, answered `r` and left `room'`
-abbrev pub Sends : (edition : ℕ) (bytes : List ℕ) (start : ℕ) (room : List ℕ) (r : Sent) (room' : List ℕ) → Type 0
+abbrev pub Sends : (edition : ℕ) (bytes : List ℕ) (start : ℕ) (room : List ℕ) (r : Result Sending Refused) (room' : List ℕ) → Type 0
 Sends edition bytes start room r room' = (answer_of r ≡ send_answer edition bytes start (length room)) × (room' ≡ send_room edition bytes start room)

@@ -12,24 +12,17 @@ use control_bytes::first_high;
 use diagrams::{State, state_number};
 use groups::send_four;
 use line::put_group;
-use refusals::Refusal;
+use refusals::{Refusal, Refused};
 use scrambler::mirrored;
 use tables::edition_of;
 use transmit::Sender;
 
 // What sending returns: its end state, the number of its end diagram state, and how many vectors it replaced.
-#[derive(Clone, Copy)]
+#[derive(Clone, Copy, Debug, PartialEq, Eq)]
 pub struct Sending {
     pub state: u64,
     pub diagram: u64,
     pub replaced: u64,
-}
-
-// The answer: what sending returns, or a refusal and its place.
-#[derive(Clone, Copy)]
-pub enum Sent {
-    Done(Sending),
-    Refused(Refusal, usize),
 }
 
 // All groups sent, each as 33 bytes of the room.
@@ -37,18 +30,11 @@ fn send_groups(edition: Edition, bytes: &[u8], s: Sender, room: &mut [u8]) -> Se
     requires { (length bytes.now ≤ 1000000) × (length bytes.now % 40 ≡ 0) × (33 * (length bytes.now / 40) ≤ length room.old) × (s.history < 2 ^ 58) × (s.replaced ≡ 0) × Low bytes.now }
     ensures { SentInto edition s bytes.now room.old room.new result }
 {
-    let groups = bytes.len() / 40;
     let mut next = s;
-    let mut g: usize = 0;
-    while g < groups {
+    for g in 0..bytes.len() / 40 {
         let four = send_four(edition, bytes, 40 * g, next);
-        let a = four.a;
-        let b = four.b;
-        let c = four.c;
-        let d = four.d;
-        put_group(room, 33 * g, a, b, c, d);
+        put_group(room, 33 * g, four.a, four.b, four.c, four.d);
         next = four.next;
-        g = g + 1;
     }
     next
 }
@@ -65,39 +51,38 @@ fn send_all(edition: Edition, vectors: &[u8], start: u64, line: &mut [u8]) -> Se
         replaced: 0,
     };
     let end = send_groups(edition, vectors, first, line);
-    let diagram = end.diagram;
     Sending {
         state: mirrored(end.history),
-        diagram: state_number(diagram),
+        diagram: state_number(end.diagram),
         replaced: end.replaced,
     }
 }
 
 // Sends a list of vectors in an edition (0 old, 1 new), from a start state below 2^58. Its line goes to the start of the lent room; a refusal
 // changes nothing.
-pub fn send(edition: u64, vectors: &[u8], start: u64, line: &mut [u8]) -> Sent
+#[tactic(auto, unfolding(crate::specs::Answer::send_answer, crate::specs::Answer::send_room, crate::specs::Answer::send_checks, refusals::specs::First::first))]
+pub fn send(edition: u64, vectors: &[u8], start: u64, line: &mut [u8]) -> Result<Sending, Refused>
     ensures { Sends edition vectors.now start line.old result line.new }
 {
     if 1 < edition {
-        return Sent::Refused(Refusal::UnknownEdition, 0);
+        return Err(Refused(Refusal::UnknownEdition, 0));
     }
     let n = vectors.len();
     if 1000000 < n {
-        return Sent::Refused(Refusal::TooMuch, 0);
+        return Err(Refused(Refusal::TooMuch, 0));
     }
     if n % 40 != 0 {
-        return Sent::Refused(Refusal::NotGroups, 0);
+        return Err(Refused(Refusal::NotGroups, 0));
     }
     if 0x0400_0000_0000_0000 <= start {
-        return Sent::Refused(Refusal::StartState, 0);
+        return Err(Refused(Refusal::StartState, 0));
     }
     if line.len() < 33 * (n / 40) {
-        return Sent::Refused(Refusal::Room, 0);
+        return Err(Refused(Refusal::Room, 0));
     }
-    let high = first_high(vectors);
-    if high < n {
-        return Sent::Refused(Refusal::ControlByte, high);
+    if let Some(high) = first_high(vectors) {
+        return Err(Refused(Refusal::ControlByte, high));
     }
     let e = edition_of(edition);
-    Sent::Done(send_all(e, vectors, start, line))
+    Ok(send_all(e, vectors, start, line))
 }

@@ -2,14 +2,13 @@
 use mathlib.Core.Path.{◌≡◌, refl, ◌∙◌, ap, ap₂, subst, sym}
 use mathlib.Core.Bool.{Bool, true, false, not, ◌&&◌, ◌||◌}
 use mathlib.Core.List.{List}
-use Prim.Native.Nat.{ℕ, zero, suc, ◌+◌, ◌-◌, ◌*◌, ◌/◌, ◌%◌, ◌^◌, ◌<◌}
-use native.Mathlib.Nat.{mod-lt, mod-mod, add_comm, div-one, lt_of_le_of_lt, zero-mul, one-mul}
+use Prim.Native.Nat.{ℕ, ◌+◌, ◌-◌, ◌*◌, ◌/◌, ◌%◌, ◌^◌, ◌<◌}
+use native.Mathlib.Nat.{mod-lt, mod-mod, add_comm, div-one, lt_of_le_of_lt}
 use native.Mathlib.Omega.{arith}
 use lib.Dec.{T, lit<, eqb, eqb→eq}
 use lib.Bits.{bit_and, bit_or, and_shr, and_mod, or_shr, or_mod, and_mask, and_zero_r, and_le_r, or_zero_r, or_zero_l, or_lt}
 use lib.ListN.{get_or}
 use lib.Pow.{shr-shr}
-use borrow.Author.Tests.{eqb-true}
 use Rattle.block.specs.declared.Edition.{Edition}
 use Rattle.block.specs.declared.Edition.TheVariants.{Old, New}
 use Rattle.block.specs.declared.Class.{Class}
@@ -199,18 +198,6 @@ module _ (h x n : ℕ) (s : Shape) (same : h ≡ s.header) (there : bit_and x s.
           omega (arith, masked x s.codes s.first 0 8 there (ap (λ (z : ℕ). z % 2 ^ 8) (div-one s.codes) ∙ o.whole), o.byte)
 
 -- what the code answers
-pub quickly : (h x n : ℕ) (s : Shape) → Shapes n s → h ≡ s.header → eqb (bit_and x s.codes) s.first ≡ true → (ed : Edition)
+pub quickly : (h x n : ℕ) (s : Shape) → Shapes n s → h ≡ s.header → bit_and x s.codes ≡ s.first → (ed : Edition)
     → (s.class ≡ class_of ed h x) × (words s x ≡ decoded ed h x) × (is_error (kind_in s.class) ≡ false)
-quickly h x n s w e t ed = answer h x n s e (eqb-true (bit_and x s.codes) s.first t) ed w
-
--- the number of a shape is below 16
-pub number_lt : (h x : ℕ) → h % 2 * (x % 16) < 16
-number_lt h x = go (h % 2) (mod-lt h (lit< tt))
-  where
-    go : (b : ℕ) → b < 2 → b * (x % 16) < 16
-    go zero l = omega (arith, zero-mul (x % 16))
-    go (suc zero) l = omega (arith, one-mul (x % 16))
-    go (suc (suc b)) l = absurd (far l)
-      where
-        far : suc (suc b) < 2 → ⊥
-        far k = omega arith
+quickly h x n s w e t ed = answer h x n s e t ed w

@@ -1,4 +1,3 @@
 pub mod Laws
-pub mod Summary
 pub mod Totals
 pub mod Unique

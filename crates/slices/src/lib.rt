@@ -8,7 +8,7 @@ ghost use Rattle.lent_words.specs.Words.{word_bytes, summary_with};
 ghost use Rattle.slices.specs.Slices.{short_slice, counters_in, counters_with, receive_length, receive_words};
 
 use counters::Counters;
-use lent_words::{flag, put_words};
+use lent_words::put_words;
 use line::load_half;
 use receiving::Summary;
 
@@ -31,11 +31,11 @@ pub fn load_counters(bytes: &[u8]) -> Counters
     }
 }
 
-// Two counters as one word of a slice.
+// Two counters as one word of a slice: words are put as wholes of 64 bits.
 fn pair(a: u32, b: u32) -> u64
     ensures { cut 8 (bit result) 8 ≡ cut 8 (bit a) 4 ++ cut 8 (bit b) 4 }
 {
-    (a as u64) + 4294967296 * (b as u64)
+    u64::from(a) + 4294967296 * u64::from(b)
 }
 
 // Counters at the start of a slice.
@@ -60,10 +60,7 @@ pub fn store_counters(bytes: &mut [u8], c: Counters)
 pub fn short_slice(summary: usize, counters: usize) -> bool
     ensures { result ≡ short_slice summary counters }
 {
-    if summary < 96 {
-        return true;
-    }
-    counters < 32
+    summary < 96 || counters < 32
 }
 
 // The twelve words of receiving's summary.
@@ -71,23 +68,21 @@ pub fn put_summary(summary: &mut [u8], s: Summary)
     requires { 96 ≤ length summary.old }
     ensures { summary.new ≡ word_bytes 8 (receive_words (received s)) ++ drop 96 summary.old }
 {
-    let c = s.counts;
-    let h = s.handed;
     put_words(
         summary,
         &[
-            c.tested,
-            c.slips,
-            flag(s.locked),
-            flag(s.high),
+            s.counts.tested,
+            s.counts.slips,
+            u64::from(s.locked),
+            u64::from(s.high),
             s.vectors,
-            c.headers,
-            c.types,
-            c.codes,
-            c.sets,
-            flag(s.alone),
-            h.begun,
-            h.replaced,
+            s.counts.headers,
+            s.counts.types,
+            s.counts.codes,
+            s.counts.sets,
+            u64::from(s.alone),
+            s.handed.begun,
+            s.handed.replaced,
         ],
     );
 }

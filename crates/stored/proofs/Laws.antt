@@ -91,29 +91,3 @@ taken_more bytes w i r l e all =
 pub taken_all : (bytes w : List ℕ) (i : ℕ) → 29 ≤ i → ((k : ℕ) → k < i → get_or w k 0 ≡ word_at 8 bytes k) → state_by (λ k. get_or w k 0) ≡ state_in bytes
 unfolding state_in
 taken_all bytes w i l all = state_same (λ k. get_or w k 0) (word_at 8 bytes) (λ k m. all k (omega arith))
-
--- ---- the state of words, as the code makes it
-
--- the state of words and of flags
-abbrev flagged : List ℕ → (a b c d e f : Bool) → State
-flagged w a b c d e f =
-    record {
-      closed = a;
-      bytes = get_or w 1 0;
-      edition = get_or w 28 0;
-      lock = record { tested = get_or w 2 0; invalid = get_or w 3 0; locked = b };
-      rate = record { blocks = get_or w 5 0; invalid = get_or w 6 0; high = c };
-      history = get_or w 8 0;
-      carried = record { count = get_or w 9 0; header = get_or w 10 0; payload = get_or w 11 0 };
-      skip = d;
-      diagram = get_or w 13 0;
-      have = e;
-      held = record { on = f; kind = get_or w 16 0; first = get_or w 17 0; second = get_or w 18 0 };
-      counts = record { tested = get_or w 19 0; slips = get_or w 20 0; headers = get_or w 22 0; types = get_or w 23 0; codes = get_or w 24 0; sets = get_or w 25 0 };
-      vectors = get_or w 21 0;
-      handed = record { begun = get_or w 26 0; replaced = get_or w 27 0 };
-    }
-
-pub state_is : (w : List ℕ) (a b c d e f : Bool) → a ≡ yes (get_or w 0 0) → b ≡ yes (get_or w 4 0) → c ≡ yes (get_or w 7 0) → d ≡ yes (get_or w 12 0) → e ≡ yes (get_or w 14 0) → f ≡ yes (get_or w 15 0)
-    → flagged w a b c d e f ≡ state_by (λ i. get_or w i 0)
-state_is w a b c d e f pa pb pc pd pe pf = λ i. flagged w (pa i) (pb i) (pc i) (pd i) (pe i) (pf i)

@@ -2,83 +2,69 @@
 #![tactic(auto)]
 
 ghost use Rattle.std.specs.Prelude.{◌≡◌, ◌≤◌, length, get_or};
-ghost use Rattle.lent_words.specs.Words.{yes};
 ghost use Rattle.stored.specs.Stored.{state_words, state_by, state_in, stored_in};
 
 use carrying::Carried;
 use kept_state::{Kept, State};
-use lent_words::{flag, put_words};
+use lent_words::put_words;
 use line::load;
 use lock::{Lock, Rate};
 use receiving::{Counts, Handed};
-
-// Any number but 0 is a yes.
-fn is_yes(n: u64) -> bool
-    ensures { result ≡ yes n }
-{
-    n != 0
-}
 
 // The words of a state.
 fn words(s: State) -> [u64; 29]
     ensures { result ≡ state_words s }
 {
-    let lock = s.lock;
-    let rate = s.rate;
-    let carried = s.carried;
-    let held = s.held;
-    let counts = s.counts;
-    let handed = s.handed;
     [
-        flag(s.closed),
+        u64::from(s.closed),
         s.bytes,
-        lock.tested,
-        lock.invalid,
-        flag(lock.locked),
-        rate.blocks,
-        rate.invalid,
-        flag(rate.high),
+        s.lock.tested,
+        s.lock.invalid,
+        u64::from(s.lock.locked),
+        s.rate.blocks,
+        s.rate.invalid,
+        u64::from(s.rate.high),
         s.history,
-        carried.count,
-        carried.header,
-        carried.payload,
-        flag(s.skip),
+        s.carried.count,
+        s.carried.header,
+        s.carried.payload,
+        u64::from(s.skip),
         s.diagram,
-        flag(s.have),
-        flag(held.on),
-        held.kind,
-        held.first,
-        held.second,
-        counts.tested,
-        counts.slips,
+        u64::from(s.have),
+        u64::from(s.held.on),
+        s.held.kind,
+        s.held.first,
+        s.held.second,
+        s.counts.tested,
+        s.counts.slips,
         s.vectors,
-        counts.headers,
-        counts.types,
-        counts.codes,
-        counts.sets,
-        handed.begun,
-        handed.replaced,
+        s.counts.headers,
+        s.counts.types,
+        s.counts.codes,
+        s.counts.sets,
+        s.handed.begun,
+        s.handed.replaced,
         s.edition,
     ]
 }
 
-// The state of some words.
+// The state of some words. Any number but 0 is a yes.
 fn state_of(w: [u64; 29]) -> State
     ensures { result ≡ state_by (λ i. get_or w i 0) }
 {
     State {
-        closed: is_yes(w[0]),
+        closed: w[0] != 0,
         bytes: w[1],
         edition: w[28],
         lock: Lock {
             tested: w[2],
             invalid: w[3],
-            locked: is_yes(w[4]),
+            locked: w[4] != 0,
         },
         rate: Rate {
             blocks: w[5],
             invalid: w[6],
-            high: is_yes(w[7]),
+            high: w[7] != 0,
         },
         history: w[8],
         carried: Carried {
@@ -86,11 +72,11 @@ fn state_of(w: [u64; 29]) -> State
             header: w[10],
             payload: w[11],
         },
-        skip: is_yes(w[12]),
+        skip: w[12] != 0,
         diagram: w[13],
-        have: is_yes(w[14]),
+        have: w[14] != 0,
         held: Kept {
-            on: is_yes(w[15]),
+            on: w[15] != 0,
             kind: w[16],
             first: w[17],
             second: w[18],
@@ -116,11 +102,9 @@ pub fn load_state(bytes: &[u8]) -> State
     requires { 232 ≤ length bytes.now }
     ensures { result ≡ state_in bytes.now }
 {
-    let mut w = [0u64; 29];
-    let mut i: usize = 0;
-    while i < 29 {
-        w[i] = load(bytes, 8 * i);
-        i += 1;
+    let mut w = [0; 29];
+    for (i, word) in w.iter_mut().enumerate() {
+        *word = load(bytes, 8 * i);
     }
     state_of(w)
 }
@@ -130,6 +114,5 @@ pub fn store_state(bytes: &mut [u8], s: State)
     requires { 232 ≤ length bytes.old }
     ensures { bytes.new ≡ stored_in s bytes.old }
 {
-    let w = words(s);
-    put_words(bytes, &w);
+    put_words(bytes, &words(s));
 }

@@ -1,3 +1,2 @@
-pub mod Low
 pub mod Entries
 pub mod Unique

@@ -2,17 +2,17 @@
 #![tactic(auto)]
 
 ghost use Rattle.std.specs.Prelude.{◌≡◌, ◌<◌, get_or};
-ghost use Rattle.block.specs.Block.{edition_of, two_words, low_power, kind_for};
+ghost use Rattle.block.specs.Block.{edition_of, low_power, kind_for};
 ghost use Rattle.block.specs.Rows.{row};
 ghost use Rattle.block.specs.Types.{types};
+ghost use Rattle.vectors.specs.Vector.{vector_bytes};
 ghost use Rattle.tables.specs.Tables.{type_word};
 
 use block::{Edition, Kind};
+use vectors::Vector;
 
-// The kind of each row, two bits for each: D, C, S and T are 0 to 3.
-const KINDS: u32 = 0xffff6694;
-
-// The edition of a number: 0 is the old one.
+// The edition of a number: 0 is the old one, and any other is read as the new one. So it cannot fail and is no `TryFrom`; its name says more than
+// a `From` would.
 pub fn edition_of(n: u64) -> Edition
     ensures { result ≡ edition_of n }
 {
@@ -59,42 +59,30 @@ fn kind_at(r: usize) -> Kind
     requires { r < 16 }
     ensures { result ≡ (row r).kind }
 {
-    let n = (KINDS >> (2 * r)) % 4;
-    if n == 0 {
-        Kind::D
-    } else if n == 1 {
-        Kind::C
-    } else if n == 2 {
-        Kind::S
-    } else {
-        Kind::T
+    match r {
+        0 => Kind::D,
+        1 | 2 | 5 | 7 => Kind::C,
+        3 | 4 | 6 => Kind::S,
+        _ => Kind::T,
     }
 }
 
-// Whether a vector of row r, as two words, is low power idle; row 1 is type 1e.
-fn low_power(r: usize, c0: u8, d0: u32, c1: u8, d1: u32) -> bool
+// Whether a vector of row r is low power idle; row 1 is type 1e.
+fn low_power(r: usize, v: Vector) -> bool
     requires { r < 16 }
-    ensures { result ≡ low_power (row r) (two_words c0 d0 c1 d1) }
+    ensures { result ≡ low_power (row r) (vector_bytes v) }
 {
-    if d0 != 0x06060606 {
-        return false;
-    }
-    if d1 != 0x06060606 {
-        return false;
-    }
-    if r != 1 {
-        return false;
-    }
-    c0 as u64 + 256 * (c1 as u64) == 0x0f0f
+    r == 1 && v.c0 == 0x0f && v.c1 == 0x0f && v.d0 == 0x06060606 && v.d1 == 0x06060606
 }
 
 // The kind of a valid vector of row r.
-pub fn kind_of(r: usize, c0: u8, d0: u32, c1: u8, d1: u32) -> Kind
+pub fn kind_of(r: usize, v: Vector) -> Kind
     requires { r < 16 }
-    ensures { result ≡ kind_for (row r) (two_words c0 d0 c1 d1) }
+    ensures { result ≡ kind_for (row r) (vector_bytes v) }
 {
-    if low_power(r, c0, d0, c1, d1) {
-        return Kind::LI;
+    if low_power(r, v) {
+        Kind::LI
+    } else {
+        kind_at(r)
     }
-    kind_at(r)
 }

@@ -1,33 +1,29 @@
 // How many error vectors and vectors of kind S there are among some vectors of a list.
 #![tactic(auto)]
 
-ghost use Rattle.std.specs.Prelude.{◌≡◌, ◌+◌, ◌*◌, ◌≤◌, length, get_or, take, drop};
+ghost use Rattle.std.specs.Prelude.{◌≡◌, ◌≤◌, length, get_or};
 ghost use Rattle.control_bytes.specs.Control.{Low};
 ghost use Rattle.lent_words.specs.Words.{flag_word};
-ghost use Rattle.block.specs.Block.{vectors_in, is_error_vector};
+ghost use Rattle.block.specs.Block.{vector_list, is_error_vector};
 ghost use Rattle.vector_tests.specs.Tests.{of_kind_s};
 ghost use Rattle.tally.specs.Tally.{tally_of};
 
-use encoding::lanes_at;
 use lent_words::flag;
-use vector_tests::{is_error, is_start};
+use vector_tests::{is_error, is_start, vector_of};
 
-#[derive(Clone, Copy)]
+#[derive(Clone, Copy, Debug, Default, PartialEq, Eq)]
 pub struct Tally {
     pub errors: u64,
     pub starts: u64,
 }
 
-// Of the vector at a place of the vector bytes. The error vector is not of kind S: it is of kind E.
-fn one_at(bytes: &[u8], at: usize) -> Tally
-    requires { (at + 10 ≤ length bytes.now) × (get_or bytes.now at 0 ≤ 15) × (get_or bytes.now (at + 5) 0 ≤ 15) }
-    ensures { (result.errors ≡ flag_word (is_error_vector (take 10 (drop at bytes.now)))) × (result.starts ≡ flag_word (of_kind_s (take 10 (drop at bytes.now)))) }
+// Of one vector. The error vector is not of kind S: it is of kind E.
+fn one_of(vector: &[u8]) -> Tally
+    requires { (length vector.now ≡ 10) × (get_or vector.now 0 0 ≤ 15) × (get_or vector.now 5 0 ≤ 15) }
+    ensures { (result.errors ≡ flag_word (is_error_vector vector.now)) × (result.starts ≡ flag_word (of_kind_s vector.now)) }
 {
-    let c0 = bytes[at];
-    let d0 = lanes_at(bytes, at + 1);
-    let c1 = bytes[at + 5];
-    let d1 = lanes_at(bytes, at + 6);
-    if is_error(c0, d0, c1, d1) {
+    let v = vector_of(vector);
+    if is_error(v) {
         return Tally {
             errors: 1,
             starts: 0,
@@ -35,26 +31,20 @@ fn one_at(bytes: &[u8], at: usize) -> Tally
     }
     Tally {
         errors: 0,
-        starts: flag(is_start(c0, d0, c1, d1)),
+        starts: flag(is_start(v)),
     }
 }
 
-// Of the n vectors from vector `from` on.
-pub fn tally_of(bytes: &[u8], from: usize, n: usize) -> Tally
-    requires { (10 * (from + n) ≤ length bytes.now) × Low bytes.now }
-    ensures { result ≡ tally_of (vectors_in n (drop (10 * from) bytes.now)) }
+// Of these vectors. By the number of a vector, not by `chunks_exact`: with that an index of 100,000 vectors took 292 us in place of 168.
+pub fn tally_of(vectors: &[u8]) -> Tally
+    requires { Low vectors.now }
+    ensures { result ≡ tally_of (vector_list vectors.now) }
 {
-    let mut errors: u64 = 0;
-    let mut starts: u64 = 0;
-    let mut i: usize = 0;
-    while i < n {
-        let one = one_at(bytes, 10 * (from + i));
-        errors = errors + one.errors;
-        starts = starts + one.starts;
-        i = i + 1;
+    let mut tally = Tally::default();
+    for i in 0..vectors.len() / 10 {
+        let one = one_of(&vectors[10 * i..10 * i + 10]);
+        tally.errors += one.errors;
+        tally.starts += one.starts;
     }
-    Tally {
-        errors: errors,
-        starts: starts,
-    }
+    tally
 }

@@ -64,16 +64,13 @@ pub fn low_power() -> Coded
 fn block_in(s: State, own: Block) -> Block
     ensures { result ≡ chosen_block s own }
 {
-    match s {
-        State::Error => Block {
+    if s == State::Error {
+        Block {
             header: 1,
             payload: 0x3c78_f1e3_c78f_1e1e,
-        },
-        State::Init => own,
-        State::Control => own,
-        State::Data => own,
-        State::Terminate => own,
-        State::LowPower => own,
+        }
+    } else {
+        own
     }
 }
 
@@ -81,14 +78,7 @@ fn block_in(s: State, own: Block) -> Block
 fn replaced_in(s: State) -> u64
     ensures { (result ≡ replaced_in s) × (result ≤ 1) }
 {
-    match s {
-        State::Error => 1,
-        State::Init => 0,
-        State::Control => 0,
-        State::Data => 0,
-        State::Terminate => 0,
-        State::LowPower => 0,
-    }
+    u64::from(s == State::Error)
 }
 
 // What goes out for a vector: the diagram's step, and the block of its state.
@@ -96,19 +86,15 @@ fn choose(e: Coded, s: Sender) -> Choice
     requires { s.replaced < 2 ^ 63 }
     ensures { Chooses e s result }
 {
-    let before = s.diagram;
-    let kind = e.kind;
-    let diagram = diagram_step(before, kind, true);
+    let diagram = diagram_step(s.diagram, e.kind, true);
     let own = Block {
         header: e.header,
         payload: e.payload,
     };
-    let block = block_in(diagram, own);
-    let replaced = s.replaced + replaced_in(diagram);
     Choice {
-        block: block,
-        diagram: diagram,
-        replaced: replaced,
+        block: block_in(diagram, own),
+        diagram,
+        replaced: s.replaced + replaced_in(diagram),
     }
 }
 
@@ -116,17 +102,15 @@ fn choose(e: Coded, s: Sender) -> Choice
 fn step_of(chosen: Choice, history: u64, out: Scrambled) -> Step
     ensures { result ≡ step_of chosen history out }
 {
-    let block = chosen.block;
-    let diagram = chosen.diagram;
     Step {
-        history: history,
-        plain: block.payload,
+        history,
+        plain: chosen.block.payload,
         block: Block {
-            header: block.header,
+            header: chosen.block.header,
             payload: out.word,
         },
         next: Sender {
-            diagram: diagram,
+            diagram: chosen.diagram,
             history: out.history,
             replaced: chosen.replaced,
         },
@@ -139,8 +123,7 @@ pub fn send_one(e: Coded, s: Sender) -> Step
     ensures { Goes e s result }
 {
     let chosen = choose(e, s);
-    let block = chosen.block;
-    let out = scramble(block.payload, s.history);
+    let out = scramble(chosen.block.payload, s.history);
     step_of(chosen, s.history, out)
 }
 
@@ -149,10 +132,12 @@ pub fn send_after(e: Coded, before: Step) -> Step
     requires { Scrambles before × (before.next.replaced < 2 ^ 63) }
     ensures { Goes e before.next result }
 {
-    let s = before.next;
-    let last = before.block;
-    let chosen = choose(e, s);
-    let block = chosen.block;
-    let out = scramble_next(block.payload, before.plain, last.payload, before.history);
-    step_of(chosen, s.history, out)
+    let chosen = choose(e, before.next);
+    let out = scramble_next(
+        chosen.block.payload,
+        before.plain,
+        before.block.payload,
+        before.history,
+    );
+    step_of(chosen, before.next.history, out)
 }

@@ -8,6 +8,7 @@ use answering::{lets_end, settle_held};
 use carrying::take_at;
 use counting::count_block;
 use receiving::{Progress, Receiver};
+use testing::test_block;
 
 // testing.rt: one tested block
 mod testing;
@@ -19,52 +20,43 @@ pub fn turn(line: &[u8], room: &mut [u8], p: Progress) -> Progress
     ensures { Turns line.now room.old room.new p result }
 {
     let r = p.receiver;
-    let pos = p.pos;
-    let at = p.at;
-    let counts = p.counts;
-    let handed = p.handed;
-    let taken = take_at(line, pos, r.skip, r.carried);
-    let carried = taken.carried;
-    let link = r.link;
-    let state = r.state;
-    let held = r.held;
-    if taken.full {
-        let block = testing::test_block(link, taken.header, taken.payload);
-        let link = block.link;
-        let next = block.held;
-        let ends = lets_end(next);
-        let settled = settle_held(room, at, handed, r.have, state, held, ends);
-        let state = settled.state;
-        let handed = settled.handed;
-        let slipped = next.slipped;
-        let counts = count_block(counts, next);
-        return Progress {
+    let taken = take_at(line, p.pos, r.skip, r.carried);
+    match taken.block {
+        Some(block) => {
+            let tested = test_block(r.link, block.header, block.payload);
+            let next = tested.held;
+            let settled = settle_held(
+                room,
+                p.at,
+                p.handed,
+                r.have,
+                r.state,
+                r.held,
+                lets_end(next),
+            );
+            Progress {
+                receiver: Receiver {
+                    skip: next.slipped,
+                    carried: taken.carried,
+                    link: tested.link,
+                    state: settled.state,
+                    have: true,
+                    held: next,
+                },
+                pos: taken.next,
+                at: settled.at,
+                counts: count_block(p.counts, next),
+                handed: settled.handed,
+            }
+        }
+        None => Progress {
             receiver: Receiver {
-                skip: slipped,
-                carried: carried,
-                link: link,
-                state: state,
-                have: true,
-                held: next,
+                skip: false,
+                carried: taken.carried,
+                ..r
             },
             pos: taken.next,
-            at: settled.at,
-            counts: counts,
-            handed: handed,
-        };
-    }
-    Progress {
-        receiver: Receiver {
-            skip: false,
-            carried: carried,
-            link: link,
-            state: state,
-            have: r.have,
-            held: held,
+            ..p
         },
-        pos: taken.next,
-        at: at,
-        counts: counts,
-        handed: handed,
     }
 }

@@ -1,13 +1,16 @@
 // One tested block: "each tested block updates lock, then error rate, then receive state".
-ghost use Rattle.std.specs.Prelude.{◌≡◌, not, ◌&&◌};
+ghost use Rattle.std.specs.Prelude.{◌≡◌};
 ghost use Rattle.receiving.specs.Machine.{valid_of, link_of, tested_of};
 ghost use Rattle.receiving.specs.Ranges.{InRange};
 ghost use Rattle.receiving.specs.Loop.{tested_in};
 
+use decoding::decode;
+use lock::{lock_step, rate_step};
 use receiving::{Held, Link};
+use scrambler::descramble;
 
 // What testing a block gives.
-#[derive(Clone, Copy)]
+#[derive(Clone, Copy, Debug, PartialEq, Eq)]
 pub struct Step {
     pub link: Link,
     pub held: Held,
@@ -17,20 +20,7 @@ pub struct Step {
 fn valid_header(header: u64) -> bool
     ensures { result ≡ valid_of header }
 {
-    if header % 2 == header / 2 % 2 {
-        return false;
-    }
-    true
-}
-
-// Locked and not high.
-fn is_on(locked: bool, high: bool) -> bool
-    ensures { result ≡ locked && not high }
-{
-    if locked {
-        return !high;
-    }
-    false
+    header % 2 != header / 2 % 2
 }
 
 // One tested block: lock, error rate and descrambler, and what the receive diagram sees of it.
@@ -38,29 +28,24 @@ pub fn test_block(l: Link, header: u64, payload: u64) -> Step
     requires { InRange l }
     ensures { (result.link ≡ link_of l header payload) × (tested_in result.held ≡ tested_of l header payload) }
 {
-    let edition = l.edition;
-    let lock = l.lock;
     let valid = valid_header(header);
-    let locking = lock::lock_step(lock, valid);
-    let next = locking.lock;
-    let rate = lock::rate_step(l.rate, lock.locked, next.locked, valid);
-    let plain = scrambler::descramble(payload, l.history);
-    let block = decoding::decode(edition, header, plain.word);
-    let on = is_on(next.locked, rate.high);
-    let class = block.class;
-    let vector = block.vector;
+    let locking = lock_step(l.lock, valid);
+    let lock = locking.lock;
+    let rate = rate_step(l.rate, l.lock.locked, lock.locked, valid);
+    let plain = descramble(payload, l.history);
+    let block = decode(l.edition, header, plain.word);
     Step {
         link: Link {
-            edition: edition,
-            lock: next,
-            rate: rate,
+            lock,
+            rate,
             history: plain.history,
+            ..l
         },
         held: Held {
-            on: on,
+            on: lock.locked && !rate.high,
             slipped: locking.slipped,
-            class: class,
-            vector: vector,
+            class: block.class,
+            vector: block.vector,
         },
     }
 }

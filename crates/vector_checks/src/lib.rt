@@ -3,32 +3,25 @@
 
 ghost use Rattle.std.specs.Prelude.{◌≡◌};
 ghost use Rattle.refusals.specs.First.{first};
-ghost use Rattle.vector_checks.specs.Checks.{vector_checks, verdict_of};
+ghost use Rattle.refusals.specs.Refused.{verdict_of};
+ghost use Rattle.vector_checks.specs.Checks.{vector_checks};
 
 use control_bytes::first_high;
-use refusals::Refusal;
-
-// What they come to: none applies; or a refusal and its place.
-#[derive(Clone, Copy)]
-pub enum Checked {
-    Sound,
-    Refused(Refusal, usize),
-}
+use refusals::{Refusal, Refused};
 
 // "1, 2, 5 as in sending", in this order.
-pub fn check_vectors(vectors: &[u8]) -> Checked
+pub fn check_vectors(vectors: &[u8]) -> Result<(), Refused>
     ensures { verdict_of result ≡ first (vector_checks vectors.now) }
 {
     let n = vectors.len();
     if 1000000 < n {
-        return Checked::Refused(Refusal::TooMuch, 0);
+        return Err(Refused(Refusal::TooMuch, 0));
     }
     if n % 40 != 0 {
-        return Checked::Refused(Refusal::NotGroups, 0);
+        return Err(Refused(Refusal::NotGroups, 0));
     }
-    let high = first_high(vectors);
-    if high < n {
-        return Checked::Refused(Refusal::ControlByte, high);
+    if let Some(high) = first_high(vectors) {
+        return Err(Refused(Refusal::ControlByte, high));
     }
-    Checked::Sound
+    Ok(())
 }

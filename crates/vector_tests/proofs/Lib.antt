@@ -1,3 +1,4 @@
 pub mod Tests
 pub mod Starts
+pub mod Parts
 pub mod Unique

@@ -1,8 +1,7 @@
+-- `blocks::load_two` meets its contract. Assumes nothing.
+use mathlib.Core.Path.{refl, ◌∙◌}
 use Rattle.blocks.proofs.Laws.{two_bytes}
 use Rattle.blocks.proofs.load_two.Goals as goal
 
 pub returns : goal.returns
-returns c =
-    let a = c.args in
-    two_bytes a.s.now (λ i. (c.shared_slice_known-3-1.given i).fits) a.at c.wide.result c.wide-2.result
-    c.wide.ensures.0 c.wide-2.ensures.0
+returns c = c.from.ensures ∙ c.from_le_bytes.ensures ∙ two_bytes c.args.s.now (λ i. (c.type_inv.s i).fits) c.args.at _ _ refl refl

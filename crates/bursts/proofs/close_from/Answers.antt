@@ -1,8 +1,8 @@
--- `bursts::close_from` meets its contract. The vector of the block that is held. Assumes nothing.
+-- `bursts::close_from` meets its contract. The vector of the block that is held, counted from nothing on. Assumes nothing.
 use mathlib.Core.Path.{◌≡◌, sym, ap, ◌∙◌, subst}
 use mathlib.Core.Bool.{true}
 use Rattle.receiving.specs.Loop.{held_handed}
-use Rattle.receiving.specs.Parts.{none_handed}
+use Rattle.receiving.specs.Parts.{no_counts, none_handed}
 use Rattle.receiving.specs.Counted.{HandedWithin}
 use Rattle.receiving.specs.declared.Handed.{Handed}
 use Rattle.receiving.specs.declared.Receiver.{Receiver}
@@ -10,48 +10,37 @@ use Rattle.receiving.proofs.Counted.{handed_none}
 use Rattle.bursts.proofs.Going.{last_fits, close_fits, close_length, close_is}
 use Rattle.bursts.proofs.close_from.Goals as goal
 
--- the last vector, counted from nothing on
-counted : (r : Receiver) (start handed : Handed) → handed ≡ held_handed r.have start r.state r.held true → start ≡ none_handed
-    → handed ≡ held_handed r.have none_handed r.state r.held true
-counted r start handed e f = e ∙ ap (λ (h : Handed). held_handed r.have h r.state r.held true) f
+-- what `default` ensures
+none : (h : Handed) → (h.begun ≡ 0) × (h.replaced ≡ 0) → h ≡ none_handed
+none h e = λ i. record { begun = e.0 i; replaced = e.1 i }
 
-none_within : (h : Handed) → h ≡ none_handed → HandedWithin 6600000 h
-none_within h e = subst (HandedWithin 6600000) (sym e) (handed_none 6600000)
+counted : (r : Receiver) (start handed : Handed) → (start.begun ≡ 0) × (start.replaced ≡ 0) → handed ≡ held_handed r.have start r.state r.held true
+    → handed ≡ held_handed r.have none_handed r.state r.held true
+counted r start handed e f = f ∙ ap (λ (h : Handed). held_handed r.have h r.state r.held true) (none start e)
 
 pub receive_last-last-requires : goal.receive_last-last-requires
-receive_last-last-requires c =
-    let args = c.args in
-    let pre = c.requires in
-    (last_fits args.s args.room.now pre.passes args.start pre.means, none_within c.none_handed.result c.none_handed.ensures)
+receive_last-last-requires c = (
+  last_fits c.args.s c.args.room.now c.requires.passes c.args.start c.requires.means,
+  subst (HandedWithin 6600000) (sym (none _ c.default.ensures)) (handed_none 6600000),
+)
 
 pub closed_state-next-requires : goal.closed_state-next-requires
 closed_state-next-requires c =
-    let args = c.args in
-    let pre = c.requires in
-    let none-handed = c.none_handed in
-    let receive-last = c.receive_last-last in
-    close_fits args.s args.room.now pre.passes args.start pre.means receive-last.result.handed
-    (counted args.start none-handed.result receive-last.result.handed receive-last.ensures.1 none-handed.ensures)
+    close_fits c.args.s c.args.room.now c.requires.passes c.args.start c.requires.means c.receive_last-last.result.handed
+    (counted c.args.start _ _ c.default.ensures c.receive_last-last.ensures.1)
 
 pub shape_of-room : goal.shape_of-room
 shape_of-room c =
-    let args = c.args in
-    let pre = c.requires in
-    let none-handed = c.none_handed in
-    let receive-last = c.receive_last-last in
-    close_length args.s args.room.now pre.passes args.start pre.means receive-last.result.handed
-    (counted args.start none-handed.result receive-last.result.handed receive-last.ensures.1 none-handed.ensures) receive-last.new.room
-    receive-last.ensures.0
+    close_length c.args.s c.args.room.now c.requires.passes c.args.start c.requires.means c.receive_last-last.result.handed
+    (counted c.args.start _ _ c.default.ensures c.receive_last-last.ensures.1) c.receive_last-last.new.room c.receive_last-last.ensures.0
 
 pub returns : goal.returns
 returns c =
-    let args = c.args in
-    let pre = c.requires in
-    let none-handed = c.none_handed in
-    let receive-last = c.receive_last-last in
-    let closed_state = c.closed_state-next in
-    let no-counts = c.no_counts in
-    close_is args.s args.room.now pre.passes args.start pre.means receive-last.result.handed
-    (counted args.start none-handed.result receive-last.result.handed receive-last.ensures.1 none-handed.ensures) receive-last.new.room
-    receive-last.ensures.0 closed_state.result receive-last.result.alone no-counts.result c.accepted.result closed_state.ensures
-    receive-last.ensures.2 no-counts.ensures c.accepted.ensures.0 c.accepted.ensures.1 c.accepted.ensures.2
+    let last = c.receive_last-last in
+    let z = c.default-2.ensures.0 in
+    let k : c.default-2.result.counts ≡ no_counts =
+    λ i. record { tested = z.0 i; slips = z.1.0 i; headers = z.1.1.0 i; types = z.1.1.1.0 i; codes = z.1.1.1.1.0 i; sets = z.1.1.1.1.1 i } in
+    close_is c.args.s c.args.room.now c.requires.passes c.args.start c.requires.means last.result.handed
+    (counted c.args.start _ _ c.default.ensures last.ensures.1) last.new.room last.ensures.0 c.closed_state-next.result
+    last.result.alone _ c.accepted.result c.closed_state-next.ensures last.ensures.2 k c.accepted.ensures.0 c.accepted.ensures.1
+    c.accepted.ensures.2

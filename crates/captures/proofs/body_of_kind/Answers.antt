@@ -1,16 +1,24 @@
+-- `captures::body_of_kind` meets its contract. Assumes nothing.
 use mathlib.Core.Path.{sym, ap, ◌∙◌}
-use Rattle.records.specs.Record.{answer_of}
-use Rattle.captures.proofs.Recorded.{no_more, unread, other, own}
+use Rattle.std.proofs.lemmas.Result.{err_from_is_err_and}
+use Rattle.records.specs.Record.{found}
+use Rattle.captures.specs.Captures.{body}
+use Rattle.captures.proofs.Recorded.{differ, agree, no_more, unread, other, own}
 use Rattle.captures.proofs.body_of_kind.Goals as goal
 
-pub returns-then-k-kind : goal.returns-then-k-kind
-returns-then-k-kind c = other _ _ _ _ _ _ _ (sym c.read.ensures ∙ ap answer_of c.in-Whole.is) c.if-k-kind.true
+pub returns-in_err-record : goal.returns-in_err-record
+returns-in_err-record c =
+    let p = err_from_is_err_and c.from_residual.result c.from_residual.ensures.1 in
+    rw (p.1, p.2) (unread _ _ _ _ _ (sym c.in_err-record.ensures))
 
-pub returns-in-End : goal.returns-in-End
-returns-in-End c = no_more _ _ _ (sym c.read.ensures ∙ ap answer_of c.in-End.is)
+pub returns-in_default : goal.returns-in_default
+returns-in_default c = no_more _ _ _ (sym c.in_ok-record.ensures ∙ ap found c.in_default.is)
 
-pub returns-in-Refused : goal.returns-in-Refused
-returns-in-Refused c = unread _ _ _ _ _ (sym c.read.ensures ∙ ap answer_of c.in-Refused.is)
+pub returns-then-ne : goal.returns-then-ne
+returns-then-ne c =
+    other _ _ _ _ _ _ _ (sym c.in_ok-record.ensures ∙ ap found c.in-Some.is) (differ c.in-Some.record.kind c.args.kind (sym c.ne.ensures ∙ c.if-ne.true))
 
-pub returns-else-k-kind : goal.returns-else-k-kind
-returns-else-k-kind c = own _ _ _ _ _ _ _ (sym c.read.ensures ∙ ap answer_of c.in-Whole.is) c.if-k-kind.false
+pub returns : goal.returns
+returns c =
+    ap body c.body.ensures
+    ∙ own _ _ _ _ _ _ _ (sym c.in_ok-record.ensures ∙ ap found c.in-Some.is) (agree c.in-Some.record.kind c.args.kind (sym c.ne.ensures ∙ c.if-ne.false))

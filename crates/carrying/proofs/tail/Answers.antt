@@ -1,33 +1,26 @@
--- `carrying::tail` meets its contract. The loop's invariant: the word holds the bytes from byte i on. Assumes nothing.
-use mathlib.Core.Path.{◌≡◌, refl, ap, ◌∙◌}
+-- `carrying::tail` meets its contract. Assumes nothing.
+use mathlib.Core.Path.{sym, ap, ◌∙◌, subst}
 use native.Mathlib.Omega.{arith}
-use Rattle.carrying.proofs.Reading.{bytes_from, tail_none, tail_lt, tail_more}
+use Prim.Native.Nat.{ℕ, ◌+◌, ◌*◌}
+use Rattle.carrying.proofs.Reading.{TailSofar, first, fits, turn, done}
 use Rattle.carrying.proofs.tail.Goals as goal
 
-pub loop-i-init : goal.loop-i-init
-loop-i-init c = (omega arith, omega arith, tail_none c.args.line.now _ refl)
+pub loop-byte-init : goal.loop-byte-init
+loop-byte-init c =
+    first c.args.line.now c.args.at _
+    (ap (λ x. x.iter.rest.now) c.into_iter-byte-iterator.ensures.into_iter_gives ∙ ap (λ x. x.rest.now) c.rev-byte-items.ensures.source ∙ c.iter.ensures.rest)
+    c.requires.0
 
 pub overflow_mul-word : goal.overflow_mul-word
-overflow_mul-word c =
-    let loop-here = c.loop-i in
-    record { fits = omega (arith, tail_lt c.args.line.now loop-here.i loop-here.word (omega arith) loop-here.invariant.2) }
+overflow_mul-word c = record { fits = omega (arith, fits c.args.line.now c.args.at _ _ c.loop-byte.word _ c.requires.1 c.loop-byte.invariant c.in-Some.ensures.steps (λ i. (c.type_inv.line i).fits)) }
 
 pub overflow_add-word : goal.overflow_add-word
-overflow_add-word c =
-    let loop-here = c.loop-i in
-    record { fits = omega (arith, tail_lt c.args.line.now loop-here.i loop-here.word (omega arith) loop-here.invariant.2) }
+overflow_add-word c = record { fits = omega (arith, fits c.args.line.now c.args.at _ _ c.loop-byte.word _ c.requires.1 c.loop-byte.invariant c.in-Some.ensures.steps (λ i. (c.type_inv.line i).fits)) }
 
-pub loop-i-preserved : goal.loop-i-preserved
-loop-i-preserved c =
-    let loop-here = c.loop-i in (
-      omega arith,
-      omega arith,
-      tail_more c.args.line.now loop-here.i loop-here.word (omega arith) loop-here.invariant.2 c.wide.result (omega arith) c.wide.ensures.0 c.wide.ensures.1,
-    )
+pub loop-byte-preserved : goal.loop-byte-preserved
+loop-byte-preserved c =
+    subst (λ (x : ℕ). TailSofar c.args.line.now c.args.at c.next.new.self.iter.rest.now (c.loop-byte.word * 256 + x)) (sym c.from.ensures)
+    (turn c.args.line.now c.args.at _ _ c.loop-byte.word _ c.requires.1 c.loop-byte.invariant c.in-Some.ensures.steps (λ i. (c.type_inv.line i).fits))
 
 pub returns : goal.returns
-returns c =
-    let line = c.args.line.now in
-    let loop-here = c.loop-i in
-    let e : loop-here.i ≡ c.args.at = omega arith in
-    loop-here.invariant.2 ∙ ap (bytes_from line) e
+returns c = done c.args.line.now c.args.at _ _ c.in-None.ensures.steps.0 c.loop-byte.invariant

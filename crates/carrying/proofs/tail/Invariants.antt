@@ -1,12 +1,6 @@
--- `carrying::tail` meets its contract. The loop's invariant: the word holds the bytes from byte i on. Assumes nothing.
-use mathlib.Core.Path.{◌≡◌}
-use Prim.Native.Nat.{◌-◌, ◌≤◌}
-use lib.ListN.{length}
-use Rattle.carrying.proofs.Reading.{bytes_from}
+-- `carrying::tail` meets its contract. The loop's invariant: the word holds the bytes after those left. Assumes nothing.
+use Rattle.carrying.proofs.Reading.{TailSofar}
 use Rattle.carrying.proofs.tail.Given as goal
 
-abbrev pub invariant-loop-i : goal.invariant-loop-i
-invariant-loop-i l = (l.at ≤ l.i) × (l.i ≤ length l.line) × (l.word ≡ bytes_from l.line l.i)
-
-abbrev pub decreases-loop-i : goal.decreases-loop-i
-decreases-loop-i l = l.i - l.at
+abbrev pub invariant-loop-byte : goal.invariant-loop-byte
+invariant-loop-byte l = TailSofar l.line l.at l.byte-iterator.iter.rest.now l.word

@@ -1,12 +1,11 @@
 -- `characters::four` meets its contract: four characters.
-use mathlib.Core.Path.{◌≡◌, ◌∙◌, ap₂, sym}
+use mathlib.Core.Path.{◌≡◌, ◌∙◌, ap, ap₂, sym}
 use Prim.Native.Nat.{ℕ, ◌/◌, ◌%◌, ◌^◌}
 use native.Mathlib.Nat.{div-one}
-use native.Mathlib.Omega.{arith}
 use Rattle.block.specs.declared.Edition.{Edition}
 use Rattle.block.specs.Block.{octet_of}
 use Rattle.block.specs.Rows.{width}
-use Rattle.characters.specs.Octets.{slot_at, octet_from, lanes_by, over_by, bad_by}
+use Rattle.characters.specs.Octets.{slot_at, octet_from, read_as, joined}
 use Rattle.characters.proofs.four.Goals as goal
 
 -- the first place and slot stand in the lowest bits
@@ -16,10 +15,5 @@ first ed places slots x =
 
 pub returns : goal.returns
 returns c =
-    let a = c.character-a.ensures ∙ first c.args.edition c.args.places c.args.slots c.args.x in (
-      λ i. lanes_by (a i) (c.character-b.ensures i) (c.character-c.ensures i) (c.character-d.ensures i),
-      λ i. over_by (a i) (c.character-b.ensures i) (c.character-c.ensures i) (c.character-d.ensures i),
-      λ i. bad_by (a i) (c.character-b.ensures i) (c.character-c.ensures i) (c.character-d.ensures i),
-      omega arith,
-      omega arith,
-    )
+    let a = c.character-a.ensures ∙ ap read_as (first c.args.edition c.args.places c.args.slots c.args.x) in
+    c.joined.ensures ∙ (λ i. joined (a i) (c.character-b.ensures i) (c.character-c.ensures i) (c.character-d.ensures i))

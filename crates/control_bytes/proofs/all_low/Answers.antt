@@ -1,29 +1,25 @@
--- `control_bytes::all_low` meets its contract. The loop's invariant: a bit that is 0 in what is laid one over the other is 0 in each group so
--- far. Assumes nothing.
+-- `control_bytes::all_low` meets its contract. Assumes nothing.
+use mathlib.Core.Path.{ap}
+use mathlib.Core.List.{List, []}
 use native.Mathlib.Omega.{arith}
 use borrow.Author.Tests.{eqb-true}
+use Prim.Native.Nat.{ℕ}
+use lib.ListN.{get_or}
 use Rattle.bits.specs.Bits.{bit, stream_bit}
 use Rattle.control_bytes.proofs.Laid.{first, turn, done}
 use Rattle.control_bytes.proofs.all_low.Goals as goal
 
-pub loop-at-init : goal.loop-at-init
-loop-at-init c = first c.args.bytes.now _
+pub loop-group-init : goal.loop-group-init
+loop-group-init c = first c.args.bytes.now _
 
-pub joined-o-requires : goal.joined-o-requires
-joined-o-requires c = omega (arith, c.loop-at.invariant.groups, c.loop-at-test.true, c.requires)
-
-pub overflow_add-at : goal.overflow_add-at
-overflow_add-at c = record { fits = omega (arith, c.loop-at.invariant.groups, c.loop-at-test.true, c.requires, c.well_formed) }
-
-pub loop-at-preserved : goal.loop-at-preserved
-loop-at-preserved c = turn c.args.bytes.now c.loop-at.o c.joined-o.result c.loop-at.at c.requires c.loop-at-test.true c.loop-at.invariant c.joined-o.ensures
+pub loop-group-preserved : goal.loop-group-preserved
+loop-group-preserved c =
+    let loop = c.loop-group in
+    turn c.args.bytes.now loop.over _ c.joined-over.result loop.group-index (omega (arith, c.as_chunks.ensures.front_len))
+    (ap (λ (l : List (List ℕ)). get_or l loop.group-index []) c.as_chunks.ensures.front) loop.invariant c.joined-over.ensures
 
 pub returns : goal.returns
 unfolding bit stream_bit
 returns c =
-    let args = c.args in
-    let shared-slice-known = c.shared_slice_known-1 in
-    let loop = c.loop-at in
-    let loop-test = c.loop-at-test in
-    λ t. done loop.o _ _ _ _ _ (eqb-true _ 0 t) args.bytes.now loop.at (λ n. omega (arith, shared-slice-known.given n)) loop.invariant
-    loop-test.false tt
+    let loop = c.loop-group in
+    λ t. done loop.over _ _ _ _ _ (eqb-true _ 0 t) c.args.bytes.now (λ n. (c.type_inv.bytes n).fits) c.requires loop.group-index (omega (arith, c.as_chunks.ensures.front_len)) loop.invariant tt

@@ -1,5 +1,7 @@
 -- `decoding::decode_control` meets its contract: bad by its type, low power idle, or the row of its type.
-use mathlib.Core.Path.{refl, ◌∙◌}
+use mathlib.Core.Path.{◌≡◌, refl, ◌∙◌}
+use Rattle.std.proofs.Common.{rules}
+use Rattle.block.specs.declared.Edition.TheVariants.{New}
 use Rattle.decoding.proofs.Looking.{no_row, row_is, shape_is}
 use Rattle.decoding.proofs.Rows.{low_answer, no_type}
 use Rattle.shapes.proofs.Rows.{row_answer}
@@ -10,8 +12,10 @@ returns-then-r-eq0 c =
     let w = no_type c.args.edition 1 c.args.payload _ refl refl (no_row c.args.payload _ c.type_row-r.ensures c.if-r-eq0.true) in
     (c.bad.ensures.0 ∙ w.0, c.bad.ensures.1 ∙ w.1)
 
-pub returns-in-New : goal.returns-in-New
-returns-in-New c = low_answer c.args.edition 1 c.args.payload c.in-New.is refl c.if-payload-eq871499720017774110.true
+pub returns-then-eq : goal.returns-then-eq
+returns-then-eq c =
+    let new : c.args.edition ≡ New = search rules in
+    low_answer c.args.edition 1 c.args.payload new refl c.if-payload-eq871499720017774110.true
 
 pub decode_row-requires : goal.decode_row-requires
 decode_row-requires c =

@@ -26,4 +26,4 @@ returns c =
     let lanes-at2 = c.lanes_at-d1 in
     let encode = c.encode in
     good_answer args.edition args.v.now if1.false _ _ _ _ (λ n. omega (arith, shared-slice-known2.given n)) if2.false if3.false
-    lanes_at.ensures lanes-at2.ensures encode.ensures c.answer.ensures
+    lanes_at.ensures lanes-at2.ensures encode.ensures c.carried.ensures

@@ -1,11 +1,7 @@
 -- `encoding::pack` meets its contract: the fields are filled one after the other.
-use Prim.Native.Nat.{◌-◌}
 use Rattle.fields.specs.Parts.{spread}
 use Rattle.fields.proofs.Packing.{Filled}
 use Rattle.encoding.proofs.pack.Given as goal
 
 abbrev pub invariant-loop-i : goal.invariant-loop-i
 invariant-loop-i l = Filled l.edition l.r (spread l.c0 l.c1 l.lanes) l.i l.payload
-
-abbrev pub decreases-loop-i : goal.decreases-loop-i
-decreases-loop-i l = 8 - l.i

@@ -1,14 +1,17 @@
 -- The cycle of calls `between`, `inside` meets its contracts. Assumes nothing.
 use Rattle.std.proofs.Common.{ap, List, length, arith}
 use Rattle.frames.specs.Frames.{Frame}
-use Rattle.frame_list.proofs.Listing.{lists_put, lists_on, left_number, left_room}
+use Rattle.frame_list.proofs.Listing.{lists_stop, lists_put, lists_on, left_number, left_room}
 use Rattle.frame_list.proofs.+between_inside.Goals as goal
 
 pub between-inside-requires : goal.between-inside-requires
 between-inside-requires t c =
-    let f = c.next_start-start.ensures in
+    let f = c.in-Some.ensures in
     let e = ap (λ (fs : List Frame). length fs) f.rest in
-    (omega (arith, f.later, c.requires.0), (c.if-start-bytes.true, c.requires.1, omega (arith, c.requires.2), f.begins c.if-start-bytes.true))
+    (omega (arith, f.later, f.within), (f.within, c.requires.1, omega (arith, c.requires.2), f.begins))
+
+pub between-returns-in-None : goal.between-returns-in-None
+between-returns-in-None t c = (lists_stop c.args.bytes.now c.args.k c.args.n c.args.list.now c.requires.0 c.in-None.ensures, λ h. h)
 
 pub inside-put_entry-requires : goal.inside-put_entry-requires
 inside-put_entry-requires t c = left_room c.args.bytes.now c.args.k c.args.n (length c.args.list.now) c.requires.0 c.requires.3 c.requires.2

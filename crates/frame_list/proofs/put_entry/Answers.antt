@@ -17,4 +17,4 @@ returns c =
     let flag = c.flag in
     let store-half3 = c.store_half-3 in
     let v = ap (λ (n : ℕ). take (args.at + 8) store-half2.new.room ++ cut 8 (bit n) 4 ++ drop (args.at + 8 + 4) store-half2.new.room) flag.ensures in
-    put_three args.list.now store-half.new.room store-half2.new.room store-half3.new.room args.at args.word args.octets (flag_word args.good) (pre) store-half.ensures store-half2.ensures (store-half3.ensures ∙ v)
+    put_three args.list.now store-half.new.room store-half2.new.room store-half3.new.room args.at args.word args.frame.octets (flag_word args.frame.good) pre store-half.ensures store-half2.ensures (store-half3.ensures ∙ v)

@@ -39,32 +39,32 @@ pub refusal-requires : goal.refusal-requires
 refusal-requires c =
     let args = c.args in
     let receive-by-value = c.receive_by_value-r in
-    let answer2 = c.in-Refused in
+    let answer2 = c.in-Err in
     let a = args in
     small a.edition a.line.now (length a.vectors.now) _ _ (as_found (receive_answer a.edition a.line.now (length a.vectors.now)) answer2.is receive-by-value.ensures.0.0)
 
-pub returns-in-Done : goal.returns-in-Done
-returns-in-Done c =
+pub returns-in-Ok : goal.returns-in-Ok
+returns-in-Ok c =
     let args = c.args in
     let short-slice = c.short_slice in
     let if1 = c.if-short_slice in
     let load-counters = c.load_counters in
     let receive-by-value = c.receive_by_value-r in
-    let answer = c.in-Done in
+    let answer = c.in-Ok in
     let put-summary = c.put_summary in
     let a = args in
     received_so a.edition a.line.now a.vectors.now a.summary.now a.counters.now (sym short-slice.ensures ∙ if1.false) answer.s load-counters.result receive-by-value.result.counters _ _ _
     (as_found (receive_answer a.edition a.line.now (length a.vectors.now)) answer.is receive-by-value.ensures.0.0) receive-by-value.ensures.0.1 put-summary.ensures
     load-counters.ensures receive-by-value.ensures.1 c.store_counters.ensures
 
-pub returns-in-Refused : goal.returns-in-Refused
-returns-in-Refused c =
+pub returns-in-Err : goal.returns-in-Err
+returns-in-Err c =
     let args = c.args in
     let short-slice = c.short_slice in
     let if1 = c.if-short_slice in
     let receive-by-value = c.receive_by_value-r in
-    let answer2 = c.in-Refused in
-    let clear2 = c.clear-in-Refused in
+    let answer2 = c.in-Err in
+    let clear2 = c.clear-in-Err in
     let a = args in
     let t =
     refused_so a.edition a.line.now a.vectors.now a.summary.now a.counters.now (sym short-slice.ensures ∙ if1.false) _ _ _

@@ -14,24 +14,24 @@ returns-then-summary-lt24 c =
 pub refusal-requires : goal.refusal-requires
 refusal-requires c =
     let a = c.args in
-    small a.edition a.vectors.now a.start (length a.line.now) _ _ (sym (ap answer_of c.in-Refused.is) ∙ c.send.ensures.0)
+    small a.edition a.vectors.now a.start (length a.line.now) _ _ (sym (ap answer_of c.in-Err.is) ∙ c.send.ensures.0)
 
-pub returns-in-Done : goal.returns-in-Done
-returns-in-Done c =
+pub returns-in-Ok : goal.returns-in-Ok
+returns-in-Ok c =
     let args = c.args in
     let if1 = c.if-summary-lt24 in
     let send = c.send in
-    let s = c.in-Done in
+    let s = c.in-Ok in
     let a = args in
     answered a.edition a.vectors.now a.line.now a.summary.now _ _ a.start _ if1.false (sym (ap answer_of s.is) ∙ send.ensures.0) send.ensures.1 c.put_words.ensures
 
-pub returns-in-Refused : goal.returns-in-Refused
-returns-in-Refused c =
+pub returns-in-Err : goal.returns-in-Err
+returns-in-Err c =
     let args = c.args in
     let if1 = c.if-summary-lt24 in
     let send = c.send in
-    let why = c.in-Refused in
-    let put-words2 = c.put_words-in-Refused in
+    let why = c.in-Err in
+    let put-words2 = c.put_words-in-Err in
     let a = args in
     let t = answered a.edition a.vectors.now a.line.now a.summary.now _ _ a.start _ if1.false (sym (ap answer_of why.is) ∙ send.ensures.0) send.ensures.1 put-words2.ensures in
     (c.refusal.ensures ∙ t.0, t.1, t.2)

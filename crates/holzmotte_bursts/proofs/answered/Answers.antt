@@ -8,35 +8,35 @@ pub put_summary-requires : goal.put_summary-requires
 put_summary-requires c =
     let args = c.args in
     let pre = c.requires in
-    let answer = c.in-Done in
+    let answer = c.in-Ok in
     (found_fits _ _ (length args.summary.now) (length args.counters.now) answer.is pre.1).0
 
 pub load_counters-before-requires : goal.load_counters-before-requires
 load_counters-before-requires c =
     let args = c.args in
     let pre = c.requires in
-    let answer = c.in-Done in
+    let answer = c.in-Ok in
     (found_fits _ _ (length args.summary.now) (length args.counters.now) answer.is pre.1).1
 
 pub store_counters-requires : goal.store_counters-requires
 store_counters-requires c =
     let args = c.args in
     let pre = c.requires in
-    let answer = c.in-Done in
+    let answer = c.in-Ok in
     (found_fits _ _ (length args.summary.now) (length args.counters.now) answer.is pre.1).1
 
 pub refusal-requires : goal.refusal-requires
 refusal-requires c =
     let args = c.args in
     let pre = c.requires in
-    let answer2 = c.in-Refused in
+    let answer2 = c.in-Err in
     found_fits _ _ (length args.summary.now) (length args.counters.now) answer2.is pre.1
 
-pub returns-in-Done : goal.returns-in-Done
-returns-in-Done c =
+pub returns-in-Ok : goal.returns-in-Ok
+returns-in-Ok c =
     let args = c.args in
     let pre = c.requires in
-    let answer = c.in-Done in
+    let answer = c.in-Ok in
     let store-state = c.store_state in
     let put-summary = c.put_summary in
     let load-counters = c.load_counters-before in
@@ -52,10 +52,10 @@ returns-in-Done c =
           add-counts.ensures store-counters.ensures,
     )
 
-pub returns-in-Refused : goal.returns-in-Refused
-returns-in-Refused c =
+pub returns-in-Err : goal.returns-in-Err
+returns-in-Err c =
     let args = c.args in
-    let answer2 = c.in-Refused in
+    let answer2 = c.in-Err in
     let clear = c.clear in
     found_left args.r.state args.r.added args.state.now args.summary.now args.counters.now c.refusal.result _ _ _ _ _
     answer2.is (c.refusal.ensures, refl, clear.ensures, refl)

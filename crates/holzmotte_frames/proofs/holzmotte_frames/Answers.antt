@@ -15,21 +15,21 @@ returns-then-summary-lt8 c =
 pub refusal-requires : goal.refusal-requires
 refusal-requires c =
     let args = c.args in
-    small args.vectors.now (length args.list.now) _ _ (sym (ap answer_of c.in-Refused.is)
+    small args.vectors.now (length args.list.now) _ _ (sym (ap answer_of c.in-Err.is)
     ∙ c.list.ensures.0)
 
-pub returns-in-Done : goal.returns-in-Done
-returns-in-Done c =
+pub returns-in-Ok : goal.returns-in-Ok
+returns-in-Ok c =
     let args = c.args in
     let list = c.list in
-    answered args.vectors.now args.list.now args.summary.now _ _ _ c.if-summary-lt8.false (sym (ap answer_of c.in-Done.is)
+    answered args.vectors.now args.list.now args.summary.now _ _ _ c.if-summary-lt8.false (sym (ap answer_of c.in-Ok.is)
     ∙ list.ensures.0) list.ensures.1
     c.put_words.ensures
 
-pub returns-in-Refused : goal.returns-in-Refused
-returns-in-Refused c =
+pub returns-in-Err : goal.returns-in-Err
+returns-in-Err c =
     let args = c.args in
     let list = c.list in
-    let t = answered args.vectors.now args.list.now args.summary.now _ _ _ c.if-summary-lt8.false (sym (ap answer_of c.in-Refused.is)
-    ∙ list.ensures.0) list.ensures.1 c.put_words-in-Refused.ensures in
+    let t = answered args.vectors.now args.list.now args.summary.now _ _ _ c.if-summary-lt8.false (sym (ap answer_of c.in-Err.is)
+    ∙ list.ensures.0) list.ensures.1 c.put_words-in-Err.ensures in
     (c.refusal.ensures ∙ t.0, t.1, t.2)

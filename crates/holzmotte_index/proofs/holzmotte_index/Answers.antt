@@ -7,10 +7,10 @@ use Rattle.holzmotte_index.proofs.Through.{build_told, build_place}
 use Rattle.holzmotte_index.proofs.holzmotte_index.Goals as goal
 
 pub refusal-requires : goal.refusal-requires
-refusal-requires c = build_place c.args.vectors.now (length c.args.index.now) _ c.in-Refused.place (sym (ap answer_of c.in-Refused.is) ∙ c.build.ensures.0)
+refusal-requires c = build_place c.args.vectors.now (length c.args.index.now) _ c.in-Err.refused.1 (sym (ap answer_of c.in-Err.is) ∙ c.build.ensures.0)
 
-pub returns-in-Done : goal.returns-in-Done
-returns-in-Done c = (ap result_of (build_told c.args.vectors.now (length c.args.index.now) _ (sym (ap answer_of c.in-Done.is) ∙ c.build.ensures.0)), c.build.ensures.1)
+pub returns-in-Ok : goal.returns-in-Ok
+returns-in-Ok c = (ap result_of (build_told c.args.vectors.now (length c.args.index.now) _ (sym (ap answer_of c.in-Ok.is) ∙ c.build.ensures.0)), c.build.ensures.1)
 
-pub returns-in-Refused : goal.returns-in-Refused
-returns-in-Refused c = (c.refusal.ensures ∙ ap result_of (build_told c.args.vectors.now (length c.args.index.now) _ (sym (ap answer_of c.in-Refused.is) ∙ c.build.ensures.0)), c.build.ensures.1)
+pub returns-in-Err : goal.returns-in-Err
+returns-in-Err c = (c.refusal.ensures ∙ ap result_of (build_told c.args.vectors.now (length c.args.index.now) _ (sym (ap answer_of c.in-Err.is) ∙ c.build.ensures.0)), c.build.ensures.1)

@@ -1,10 +1,15 @@
-use mathlib.Core.Path.{sym, ap, ◌∙◌}
-use Rattle.record_writing.specs.Writing.{write_answer_of}
+use Prim.Native.Nat.{◌+◌, ◌*◌}
+use mathlib.Core.Path.{ap, ◌∙◌}
+use Rattle.refusals.specs.Number.{number_of}
+use Rattle.refusals.specs.declared.Refused.{Refused}
 use Rattle.holzmotte_records.proofs.Through.{writes}
 use Rattle.holzmotte_records.proofs.holzmotte_write_record.Goals as goal
 
-pub returns-in-Done : goal.returns-in-Done
-returns-in-Done c = (writes _ _ _ _ _ (sym (ap write_answer_of c.in-Done.is) ∙ c.write.ensures.0), c.write.ensures.1)
+pub returns-in-Ok : goal.returns-in-Ok
+returns-in-Ok c = (writes _ _ _ _ _ c.in-Ok.ensures.0, c.in-Ok.ensures.1)
 
-pub returns-in-Refused : goal.returns-in-Refused
-returns-in-Refused c = (c.refusal.ensures ∙ writes _ _ _ _ _ (sym (ap write_answer_of c.in-Refused.is) ∙ c.write.ensures.0), c.write.ensures.1)
+pub returns-in-Err : goal.returns-in-Err
+returns-in-Err c = (
+  c.refusal.ensures ∙ ap (λ (r : Refused). number_of r.0 + 256 * r.1) c.into.ensures ∙ writes _ _ _ _ _ c.in-Err.ensures.0,
+  c.in-Err.ensures.1,
+)

@@ -1,5 +1,4 @@
 use native.Mathlib.Omega.{arith}
-use Prim.Native.Nat.{◌-◌}
 use Rattle.hunting.specs.Unlocked.{after_search}
 use Rattle.receiving.proofs.Stretching.{stretch_first, stretch_more, stretch_turn}
 use Rattle.hunting.proofs.hunt_blocks.Goals as goal

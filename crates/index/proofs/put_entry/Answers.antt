@@ -6,4 +6,4 @@ use Rattle.index.proofs.put_entry.Goals as goal
 
 pub returns : goal.returns
 returns c =
-    put_two (8 * c.args.k) c.args.errors c.args.starts c.args.index.now c.store_half.new.room c.store_half-2.new.room (omega (arith, c.requires)) c.store_half.ensures c.store_half-2.ensures
+    put_two (8 * c.args.k) c.args.before.errors c.args.before.starts c.args.index.now c.store_half.new.room c.store_half-2.new.room (omega (arith, c.requires)) c.store_half.ensures c.store_half-2.ensures

@@ -16,12 +16,10 @@ general_step-requires c =
     let args = c.args in
     let pre = c.requires in
     let descramble = c.descramble-plain in
-    let at_once = c.at_once-q in
-    let if1 = c.if-q in
     let line = args.line.now in
     let pos : ℕ = args.p.pos + 66 * args.s.count in
     let ed = args.p.receiver.link.edition in
-    let told = at_once.ensures if1.true in
+    let told = c.in-Some.ensures in
     let small : args.b.header < 4 = subst (λ (n : ℕ). n < 4) (sym pre.2) (number_lt 2 (λ i. line_bit line (pos + i)) (λ i q. line_bit_lt line (pos + i))) in (
       pre.0,
       record {
@@ -30,7 +28,7 @@ general_step-requires c =
         here = pre.1.here;
         header = pre.2;
         payload = pre.3;
-        valid = good_valid ed args.b.header descramble.result.word at_once.result.class small told.0 told.2;
+        valid = good_valid ed args.b.header descramble.result.word c.in-Some.q.class small told.0 told.2;
         more = pre.1.more;
       },
       record {
@@ -42,8 +40,8 @@ general_step-requires c =
       descramble.ensures.1,
     )
 
-pub returns-then-q : goal.returns-then-q
-returns-then-q c =
+pub returns-in-Some : goal.returns-in-Some
+returns-in-Some c =
     let args = c.args in
     let pre = c.requires in
     let general-step = c.general_step in
@@ -53,8 +51,8 @@ returns-then-q c =
       λ l. general-step.ensures.1,
     )
 
-pub returns : goal.returns
-returns c =
+pub returns-in-None : goal.returns-in-None
+returns-in-None c =
     let args = c.args in
     let pre = c.requires in (
       stretch_first args.line.now args.room.now (ran_of args.p args.s) pre.1.under (omega (arith, pre.1.here)),

@@ -1,14 +1,18 @@
 -- `reception::receive_more` meets its contract. The loop's invariant: what comes of the receiver, its room and its counts from here is what comes of them from the start. Assumes nothing.
 use native.Mathlib.Omega.{arith}
-use Prim.Native.Nat.{◌-◌}
-use Rattle.reception.proofs.Looping.{loop_first, loop_next, loop_stretch, loop_ends}
+use mathlib.Core.Path.{sym, subst}
+use Rattle.receiving.specs.declared.Progress.{Progress}
+use Rattle.reception.proofs.Defaults.{begun_default}
+use Rattle.reception.proofs.Looping.{Looping, loop_first, loop_next, loop_stretch, loop_ends}
 use Rattle.reception.proofs.receive_more.Goals as goal
 
 pub loop-p-init : goal.loop-p-init
 loop-p-init c =
     let args = c.args in
     let pre = c.requires in
-    loop_first args.line.now args.room.now args.start pre.1 pre.2 pre.3
+    subst (λ (p : Progress). Looping args.line.now args.room.now args.room.now p p)
+    (sym (begun_default args.start c.default.result c.default-2.result c.default.ensures c.default-2.ensures))
+    (loop_first args.line.now args.room.now args.start pre.1 pre.2 pre.3)
 
 pub stretch-p-requires : goal.stretch-p-requires
 stretch-p-requires c = (c.requires.0, c.loop-p.invariant.under, omega (arith, c.loop-p-test.true))
@@ -47,5 +51,7 @@ pub returns : goal.returns
 returns c =
     let args = c.args in
     let loop-here = c.loop-p in
-    loop_ends args.line.now args.room.now loop-here.room args.start loop-here.p loop-here.invariant
+    loop_ends args.line.now args.room.now loop-here.room args.start loop-here.p
+    (subst (λ (p : Progress). Looping args.line.now args.room.now loop-here.room p loop-here.p)
+    (begun_default args.start c.default.result c.default-2.result c.default.ensures c.default-2.ensures) loop-here.invariant)
     (omega (arith, c.loop-p-test.false))

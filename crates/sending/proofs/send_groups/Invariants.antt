@@ -1,10 +1,6 @@
--- `sending::send_groups` meets its contract. The loop's invariant: after g groups their line is at the start of the room. Assumes nothing.
-use Prim.Native.Nat.{◌-◌}
+-- After g groups their line is at the start of the room.
 use Rattle.sending.proofs.Whole.{SentSofar}
 use Rattle.sending.proofs.send_groups.Given as goal
 
 abbrev pub invariant-loop-g : goal.invariant-loop-g
 invariant-loop-g l = SentSofar l.edition l.initial.next l.bytes l.initial.room l.room l.next l.g
-
-abbrev pub decreases-loop-g : goal.decreases-loop-g
-decreases-loop-g l = l.groups - l.g

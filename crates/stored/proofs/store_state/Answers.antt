@@ -9,4 +9,4 @@ use Rattle.stored.proofs.store_state.Goals as goal
 
 pub returns : goal.returns
 unfolding stored_in
-returns c = c.put_words.ensures ∙ ap (λ (w : List ℕ). word_bytes 8 w ++ drop (8 * length w) c.args.bytes.now) c.words-w.ensures
+returns c = c.put_words.ensures ∙ ap (λ (w : List ℕ). word_bytes 8 w ++ drop (8 * length w) c.args.bytes.now) c.words.ensures

@@ -7,6 +7,6 @@ pub returns-then-low_power : goal.returns-then-low_power
 unfolding kind_for
 returns-then-low_power c = rw (sym c.low_power.ensures ∙ c.if-low_power.true)
 
-pub returns : goal.returns
+pub returns-else-low_power : goal.returns-else-low_power
 unfolding kind_for
-returns c = rw (sym c.low_power.ensures ∙ c.if-low_power.false) c.kind_at.ensures
+returns-else-low_power c = rw (sym c.low_power.ensures ∙ c.if-low_power.false) c.kind_at.ensures

@@ -1,8 +1,6 @@
 -- `tables::type_word` meets its contract: each word is compared with its rule.
 use mathlib.Core.Path.{ap, sym}
-use native.Mathlib.Nat.{not-suc-le-zero}
 use Rattle.tables.specs.Tables.{type_word}
-use Rattle.tables.proofs.Entries.{down}
 use Rattle.tables.proofs.type_word.Goals as goal
 
 pub returns-in-0 : goal.returns-in-0
@@ -68,28 +66,3 @@ returns-in-14 c = ap type_word (sym c.in-14.is)
 pub returns-in-15 : goal.returns-in-15
 unfolding type_word
 returns-in-15 c = ap type_word (sym c.in-15.is)
-
--- a number below 16 is one of these
-pub returns-in_default : goal.returns-in_default
-returns-in_default c =
-    let pre = c.requires in
-    absurd
-    (not-suc-le-zero
-    (down
-    (down
-    (down
-    (down
-    (down
-    (down
-    (down
-    (down
-    (down
-    (down
-    (down
-    (down
-    (down (down (down (down pre c.in_default.in_default-own.rest.1) c.in_default.in_default-own.rest.0.1) c.in_default.in_default-own.rest.0.0.1) c.in_default.in_default-own.rest.0.0.0.1)
-    c.in_default.in_default-own.rest.0.0.0.0.1) c.in_default.in_default-own.rest.0.0.0.0.0.1) c.in_default.in_default-own.rest.0.0.0.0.0.0.1)
-    c.in_default.in_default-own.rest.0.0.0.0.0.0.0.1) c.in_default.in_default-own.rest.0.0.0.0.0.0.0.0.1) c.in_default.in_default-own.rest.0.0.0.0.0.0.0.0.0.1)
-    c.in_default.in_default-own.rest.0.0.0.0.0.0.0.0.0.0.1) c.in_default.in_default-own.rest.0.0.0.0.0.0.0.0.0.0.0.1)
-    c.in_default.in_default-own.rest.0.0.0.0.0.0.0.0.0.0.0.0.1) c.in_default.in_default-own.rest.0.0.0.0.0.0.0.0.0.0.0.0.0.1)
-    c.in_default.in_default-own.rest.0.0.0.0.0.0.0.0.0.0.0.0.0.0.1) c.in_default.in_default-own.rest.0.0.0.0.0.0.0.0.0.0.0.0.0.0.0.1))

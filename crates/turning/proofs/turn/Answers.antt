@@ -8,37 +8,31 @@ pub settle_held-settled-requires : goal.settle_held-settled-requires
 settle_held-settled-requires c =
     let args = c.args in
     let pre = c.requires in
-    let take_at = c.take_at-taken in
-    let test-block = c.test_block-block in (
-      rw c.lets_end-ends.ensures
-          (held_fits args.line.now args.room.now args.p pre.1 take_at.result take_at.ensures c.if-taken.true test-block.result.link test-block.result.held test-block.ensures.0 test-block.ensures.1),
+    let taken = c.take_at-taken in
+    let tested = c.test_block-tested in (
+      rw c.lets_end.ensures
+          (held_fits args.line.now args.room.now args.p pre.1 taken.result taken.ensures c.in-Some.block c.in-Some.is tested.result.link tested.result.held tested.ensures.0 tested.ensures.1),
       handed_wide args.p.handed args.p.pos 6600000 pre.1.handed (omega (arith, pre.0, pre.2)),
     )
 
-pub count_block-counts-requires : goal.count_block-counts-requires
-count_block-counts-requires c =
-    let pre-2 = c.requires in
-    let args = c.args in
-    let pre = pre-2 in
-    within_wide args.p.counts args.p.pos 6600000 pre.1.counts (omega (arith, pre.0, pre.2))
+pub count_block-requires : goal.count_block-requires
+count_block-requires c =
+    let p = c.args.p in
+    within_wide p.counts p.pos 6600000 c.requires.1.counts (omega (arith, c.requires.0, c.requires.2))
 
-pub returns-then-taken : goal.returns-then-taken
-returns-then-taken c =
+pub returns-in-Some : goal.returns-in-Some
+returns-in-Some c =
     let args = c.args in
-    let pre = c.requires in
-    let take_at = c.take_at-taken in
-    let test-block = c.test_block-block in
-    let settle_held = c.settle_held-settled in
-    let e = rw c.lets_end-ends.ensures at settle_held.ensures in
-    turn_block args.line.now args.room.now args.p pre.1 take_at.result take_at.ensures c.if-taken.true
-    test-block.result.link test-block.result.held test-block.ensures.0 test-block.ensures.1
-    settle_held.result.state settle_held.result.at c.count_block-counts.result settle_held.new.room e.0 e.1 e.2 settle_held.result.handed e.3
-    c.count_block-counts.ensures
+    let taken = c.take_at-taken in
+    let tested = c.test_block-tested in
+    let settled = c.settle_held-settled in
+    let e = rw c.lets_end.ensures at settled.ensures in
+    turn_block args.line.now args.room.now args.p c.requires.1 taken.result taken.ensures c.in-Some.block c.in-Some.is
+    tested.result.link tested.result.held tested.ensures.0 tested.ensures.1
+    settled.result.state settled.result.at c.count_block.result settled.new.room e.0 e.1 e.2 settled.result.handed e.3
+    c.count_block.ensures
 
-pub returns : goal.returns
-returns c =
+pub returns-in-None : goal.returns-in-None
+returns-in-None c =
     let args = c.args in
-    let pre = c.requires in
-    let take_at = c.take_at-taken in
-    turn_wait args.line.now args.room.now args.p pre.1 pre.2 take_at.result take_at.ensures
-    c.if-taken.false
+    turn_wait args.line.now args.room.now args.p c.requires.1 c.requires.2 c.take_at-taken.result c.take_at-taken.ensures c.in-None.is

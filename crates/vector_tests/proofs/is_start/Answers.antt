@@ -1,16 +1,16 @@
 -- `vector_tests::is_start` meets its contract. Assumes nothing.
-use mathlib.Core.Path.{ap, ◌∙◌}
-use native.Mathlib.Omega.{arith}
-use Rattle.block.specs.Block.{two_words, is_s}
+use Rattle.std.proofs.Common.{ap, ◌∙◌, arith}
+use Rattle.block.specs.Block.{is_s}
+use Rattle.vectors.specs.Vector.{vector_bytes}
 use Rattle.vector_tests.proofs.Starts.{no_start_lem}
-use Rattle.vector_tests.proofs.Tests.{coded_kind}
+use Rattle.vector_tests.proofs.Tests.{coded_kind, kind_is_s}
 use Rattle.vector_tests.proofs.is_start.Goals as goal
 
-pub returns-then-c0-eq0 : goal.returns-then-c0-eq0
-returns-then-c0-eq0 c = no_start_lem (two_words c.args.c0 c.args.d0 c.args.c1 c.args.d1) (omega (arith, c.requires.0)) (omega (arith, c.requires.1)) (λ e. omega (arith, e.0, c.if-c0-eq0.true))
+pub returns-then-v-eq0 : goal.returns-then-v-eq0
+returns-then-v-eq0 c = no_start_lem (vector_bytes c.args.v) (omega (arith, c.requires.0)) (omega (arith, c.requires.1)) (λ e. omega (arith, e.0, c.if-v-eq0.true))
 
-pub returns-then-c1-gt1 : goal.returns-then-c1-gt1
-returns-then-c1-gt1 c = no_start_lem (two_words c.args.c0 c.args.d0 c.args.c1 c.args.d1) (omega (arith, c.requires.0)) (omega (arith, c.requires.1)) (λ e. omega (arith, e.1, c.if-c1-gt1.true))
+pub returns-then-v-gt1 : goal.returns-then-v-gt1
+returns-then-v-gt1 c = no_start_lem (vector_bytes c.args.v) (omega (arith, c.requires.0)) (omega (arith, c.requires.1)) (λ e. omega (arith, e.1, c.if-v-gt1.true))
 
 pub returns : goal.returns
-returns c = c.is_s.ensures ∙ ap is_s (coded_kind (two_words c.args.c0 c.args.d0 c.args.c1 c.args.d1) c.encode-e.result c.encode-e.ensures)
+returns c = c.eq.ensures ∙ kind_is_s c.encode.result.kind ∙ ap is_s (coded_kind (vector_bytes c.args.v) c.encode.result c.encode.ensures)

@@ -1,6 +1,0 @@
--- `groups::group_of` meets its contract. Assumes nothing.
-use mathlib.Core.Path.{refl}
-use Rattle.groups.proofs.group_of.Goals as goal
-
-pub returns : goal.returns
-returns c = refl
