@@ -66,13 +66,13 @@ module _ (ed : Edition) (r : ℕ) (inside : r < 16) (s : Shape) (o : OfFormat (r
   there p =
       ap₂ (λ (m n : ℕ). octet_of ed (slot_at (n % 8)) (x / 2 ^ (m % 64) % 2 ^ width (slot_at (n % 8)))) (shr-shr s.places 32 (8 * p)) (shr-shr s.slots 32 (8 * p))
 
-  pub low_four : four_by (octet_from ed s.places s.slots x 0) (octet_from ed s.places s.slots x 1) (octet_from ed s.places s.slots x 2) (octet_from ed s.places s.slots x 3)
-      ≡ four_by (octet_by ed r x 0) (octet_by ed r x 1) (octet_by ed r x 2) (octet_by ed r x 3)
-  low_four = λ i. four_by (here 0 (lit< tt) i) (here 1 (lit< tt) i) (here 2 (lit< tt) i) (here 3 (lit< tt) i)
+  pub low_four : {A : Type 0} (g : ℕ → ℕ → ℕ → ℕ → A) → g (octet_from ed s.places s.slots x 0) (octet_from ed s.places s.slots x 1) (octet_from ed s.places s.slots x 2) (octet_from ed s.places s.slots x 3)
+      ≡ g (octet_by ed r x 0) (octet_by ed r x 1) (octet_by ed r x 2) (octet_by ed r x 3)
+  low_four g = λ i. g (here 0 (lit< tt) i) (here 1 (lit< tt) i) (here 2 (lit< tt) i) (here 3 (lit< tt) i)
 
-  pub high_four : four_by (octet_from ed (s.places / 2 ^ 32) (s.slots / 2 ^ 32) x 0) (octet_from ed (s.places / 2 ^ 32) (s.slots / 2 ^ 32) x 1) (octet_from ed (s.places / 2 ^ 32) (s.slots / 2 ^ 32) x 2) (octet_from ed (s.places / 2 ^ 32) (s.slots / 2 ^ 32) x 3)
-      ≡ four_by (octet_by ed r x 4) (octet_by ed r x 5) (octet_by ed r x 6) (octet_by ed r x 7)
-  high_four = λ i. four_by ((there 0 ∙ here 4 (lit< tt)) i) ((there 1 ∙ here 5 (lit< tt)) i) ((there 2 ∙ here 6 (lit< tt)) i) ((there 3 ∙ here 7 (lit< tt)) i)
+  pub high_four : {A : Type 0} (g : ℕ → ℕ → ℕ → ℕ → A) → g (octet_from ed (s.places / 2 ^ 32) (s.slots / 2 ^ 32) x 0) (octet_from ed (s.places / 2 ^ 32) (s.slots / 2 ^ 32) x 1) (octet_from ed (s.places / 2 ^ 32) (s.slots / 2 ^ 32) x 2) (octet_from ed (s.places / 2 ^ 32) (s.slots / 2 ^ 32) x 3)
+      ≡ g (octet_by ed r x 4) (octet_by ed r x 5) (octet_by ed r x 6) (octet_by ed r x 7)
+  high_four g = λ i. g ((there 0 ∙ here 4 (lit< tt)) i) ((there 1 ∙ here 5 (lit< tt)) i) ((there 2 ∙ here 6 (lit< tt)) i) ((there 3 ∙ here 7 (lit< tt)) i)
 
 -- ---- the row and the shape of a type
 

@@ -42,6 +42,10 @@ every_drop q (suc n) (f ∷ fs) t = every_drop q n fs (both_right (q f) (every q
 same_flags : (v : List ℕ) (f : Format) → get_or v 0 0 < 16 → flags_of f ≡ get_or v 0 0 + 16 * get_or v 5 0 → SameFlags v f
 same_flags v f h e = (omega (arith, flags_lt f.fields 0), omega (arith, flags_lt f.fields 0))
 
+-- the next row is a later one
+pub next_gt : (r : ℕ) → r < next_by r
+next_gt r = omega arith
+
 abbrev one_header : Format → Bool
 one_header f = eqb (flags_of f) 0 || eqb f.header 1
 

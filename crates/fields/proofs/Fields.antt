@@ -41,7 +41,7 @@ slot_is Start = refl
 slot_is Terminate = refl
 
 -- an octet among the eight
-lane_of_lem : (c0 c1 lanes p : ℕ) → p < 8 → lane_of (spread c0 c1 lanes) p ≡ lanes / 2 ^ (8 * p) % 2 ^ 8
+pub lane_of_lem : (c0 c1 lanes p : ℕ) → p < 8 → lane_of (spread c0 c1 lanes) p ≡ lanes / 2 ^ (8 * p) % 2 ^ 8
 lane_of_lem c0 c1 lanes =
     eight (λ (p : ℕ). lane_of (spread c0 c1 lanes) p ≡ lanes / 2 ^ (8 * p) % 2 ^ 8)
     (omega arith) (omega arith) (omega arith) (omega arith) (omega arith) (omega arith) (omega arith) (omega arith)

@@ -1,5 +1,6 @@
 -- What can be said of a program's reading. Which bytes a read puts into a buffer is the operating system's: the promises say that they are no
--- more than were asked for, and that there are reads for which the outcome and the store are the definition's.
+-- more than were asked for, that they are the next ones of a reader that says what it has left, and that there are reads for which the outcome
+-- and the store are the definition's.
 use Rattle.std.specs.Prelude.{ℕ, ◌+◌, ◌-◌, ◌^◌, ◌≤◌, ◌≡◌, List, [], length, take, Result, IfOk}
 use Rattle.records.specs.Record.{body_limit, wanted_of}
 use Rattle.gather.specs.Gather.{more, RecordRead, so_far, turn_of, Shows}

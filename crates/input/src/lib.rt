@@ -2,8 +2,8 @@
 // window by window, for which the outcome and the store are those of the definition.
 #![tactic(auto)]
 
-ghost use Rattle.std.specs.Prelude.{◌≡◌, ◌<◌, ◌≤◌, length, IfOk};
-ghost use Rattle.std.specs.Io.KnownBytes.{IsAtEnd};
+ghost use Rattle.std.specs.Prelude.{◌≡◌, ◌<◌, ◌≤◌, length, take, IfOk};
+ghost use Rattle.std.specs.Io.KnownBytes.{Consumes, IsAtEnd};
 ghost use Rattle.input.specs.Read.{asked_by, WindowIn, Gathers};
 
 use gather::{Step, Stop};
@@ -13,6 +13,7 @@ use std::io::Read;
 // Fills a buffer from a reader, or as much of it as the input has. (A `while`: it goes on by what a read gave, and not by one.)
 fn fill<R: Read>(reader: &mut R, buf: &mut [u8]) -> io::Result<usize>
     ensures within { IfOk result (λ n. n ≤ length buf.old) }
+    ensures bytes { IfOk result (λ n. Consumes (R.remaining reader.old) (R.remaining reader.new) (take n buf.new)) }
     ensures ends { IfOk result (λ n. n < length buf.old → IsAtEnd (R.remaining reader.new)) }
 {
     let mut done = 0;
@@ -30,6 +31,7 @@ fn fill<R: Read>(reader: &mut R, buf: &mut [u8]) -> io::Result<usize>
 fn read_window<R: Read>(reader: &mut R, window: &mut [u8]) -> io::Result<usize>
     requires { length window.old ≡ 65476 }
     ensures window { WindowIn window.new result }
+    ensures bytes { IfOk result (λ n. Consumes (R.remaining reader.old) (R.remaining reader.new) (take n window.new)) }
     ensures ends { IfOk result (λ n. n < asked_by window.new n → IsAtEnd (R.remaining reader.new)) }
 {
     let head = fill(reader, &mut window[..4])?;

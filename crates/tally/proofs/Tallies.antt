@@ -1,5 +1,5 @@
 -- Tallies of vectors, one after the other. Assumes nothing.
-use Rattle.std.proofs.Common.{ℕ, ◌+◌, ◌*◌, ◌≤◌, ◌≡◌, sym, ap, ap₂, ◌∙◌, Bool, true, cond, List, length, get_or, take, drop, length-drop, arith}
+use Rattle.std.proofs.Common.{ℕ, ◌+◌, ◌*◌, ◌≤◌, ◌≡◌, sym, ap, ap₂, ◌∙◌, Bool, true, false, refl, cond, List, length, get_or, take, drop, length-drop, arith}
 use native.Mathlib.Nat.{add-zero}
 use lib.ListN.{get_or-eq_default, length-take}
 use lib.Seq.{get_or-take, get_or-drop}
@@ -16,6 +16,7 @@ use Rattle.block.proofs.Reading.{same_is}
 use Rattle.block.proofs.Carried.{kind_of_error}
 use Rattle.block.proofs.Vectors.{vectors_add, length_vectors}
 use Rattle.vector_tests.specs.Tests.{of_kind_s}
+use Rattle.vector_tests.proofs.Starts.{no_start_lem}
 use Rattle.tally.specs.Tally.{tally_of}
 use Rattle.tally.specs.declared.Tally.{Tally}
 
@@ -91,4 +92,15 @@ pub error_only : (v : List ℕ) → true ≡ is_error_vector v → (1 ≡ flag_w
 error_only v t = (
   ap flag_word t,
   ap (λ (k : Kind). flag_word (is_s k)) (sym (kind_of_error New)) ∙ ap (λ (u : List ℕ). flag_word (of_kind_s u)) (sym (same_is v error_vector (is_true (sym t)))),
+)
+
+-- one whose first word is all data is neither
+no_error : (v : List ℕ) (b : Bool) → is_error_vector v ≡ b → get_or v 0 0 ≡ 0 → 0 ≡ flag_word b
+no_error v true e z = absurd (let w : get_or v 0 0 ≡ 15 = ap (λ (u : List ℕ). get_or u 0 0) (same_is v error_vector (is_true e)) in omega (arith, z, w))
+no_error v false e z = refl
+
+pub neither : (v : List ℕ) → get_or v 0 0 ≤ 15 → get_or v 5 0 ≤ 15 → get_or v 0 0 ≡ 0 → (0 ≡ flag_word (is_error_vector v)) × (0 ≡ flag_word (of_kind_s v))
+neither v l h z = (
+  no_error v (is_error_vector v) refl z,
+  ap flag_word (no_start_lem v (omega (arith, l)) (omega (arith, h)) (λ e. omega (arith, e.0, z))),
 )

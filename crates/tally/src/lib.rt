@@ -17,12 +17,15 @@ pub struct Tally {
     pub starts: u64,
 }
 
-// Of one vector. The error vector is not of kind S: it is of kind E.
+// Of one vector. One whose first word is all data is neither; the error vector is not of kind S: it is of kind E.
 fn one_of(vector: &[u8]) -> Tally
     requires { (length vector.now ≡ 10) × (get_or vector.now 0 0 ≤ 15) × (get_or vector.now 5 0 ≤ 15) }
     ensures { (result.errors ≡ flag_word (is_error_vector vector.now)) × (result.starts ≡ flag_word (of_kind_s vector.now)) }
 {
     let v = vector_of(vector);
+    if v.c0 == 0 {
+        return Tally::default();
+    }
     if is_error(v) {
         return Tally {
             errors: 1,
